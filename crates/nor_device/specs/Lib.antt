@@ -1,0 +1,5 @@
+pub mod Flash
+pub mod Torn
+pub mod Device
+pub mod Ram
+pub mod RamView

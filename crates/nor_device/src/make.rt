@@ -1,0 +1,28 @@
+//! A step from its start to its end, on any device.
+
+ghost use Rattle.std.specs.Prelude.{◌≡◌, ◌⊎◌, ℕ, ◌+◌, ◌≤◌, ◌^◌, List, None, Some, IsSome, IfSome, OnOk, OnErr, IfErr};
+ghost use Rattle.nor_device.specs.Flash.{end_of, IsInOnePage, applied};
+ghost use Rattle.nor_device.specs.Torn.{Torn};
+ghost use Rattle.nor_device.specs.Device.{HasCause, KeepsSetting, IsMade, IsLeftTorn, end_by};
+
+use crate::nor::{Nor, NorFault, Ready, StepEnd};
+use crate::step::Step;
+
+/// Polls the running step to its end, at most as often as the device says.
+pub fn finish<D: Nor>(device: &mut D) -> Result<(), NorFault>
+    requires { IsSome (D.running device.old) }
+    ensures idle { D.running device.new ≡ None }
+    ensures made { OnOk result (IsMade (D.running device.old) (D.bytes device.old) (D.bytes device.new)) }
+    ensures done { OnOk result (D.may_end (D.setting device.old) (D.steps device.old) StepEnd.Done) }
+    ensures torn { OnErr result (IsLeftTorn (D.may_tear (D.setting device.old) (D.steps device.old)) (D.running device.old) (D.bytes device.old) (D.bytes device.new)) }
+    ensures ended { IfErr result (λ why. D.may_end (D.setting device.old) (D.steps device.old) (end_by why)) }
+    ensures steps { D.steps device.new ≡ D.steps device.old }
+    ensures setting { KeepsSetting D.size D.setting device.old device.new }
+    ensures cause { HasCause (D.faults device.old) (D.faults device.new) (D.off device.new) result }
+{
+    loop {
+        if device.poll()? == Ready::Ready {
+            return Ok(());
+        }
+    }
+}

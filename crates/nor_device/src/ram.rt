@@ -1,0 +1,169 @@
+//! A flash in memory: each step is made in its last poll.
+
+ghost use Rattle.std.specs.Prelude.{◌≡◌, ◌↔◌, ◌≤◌, ◌+◌, ◌++◌, IsTrue, None, length, take, drop, replicate};
+ghost use Rattle.nor_device.specs.Flash.{end_of, applied, anded};
+ghost use Rattle.nor_device.specs.Device.{part_of};
+ghost use Rattle.nor_device.specs.Ram.{IsFlashSize};
+
+use crate::nor::{Nor, NorFault, Ready};
+use crate::step::{SECTOR_SIZE, Step};
+use std::marker::Model;
+
+/// A device that keeps its bytes in memory, refuses nothing and answers `Busy` a fixed number of times a step.
+#[derive(Drop)]
+pub struct RamNor {
+    bytes: Vec<u8>,
+    polls: u32,
+    running: Option<Step>,
+    left: u32,
+    steps: u64,
+}
+
+// Clauses see the bytes, the polls of each step, what runs, the polls that are left, and the number of steps.
+impl Model for RamNor {
+    ghost use Rattle.nor_device.specs.Ram.{Ram};
+
+    ghost Value = { Ram };
+
+    ghost use Rattle.nor_device.specs.RamView.{ram_of, IsRam};
+
+    ghost view = { ram_of };
+
+    ghost invariant = { IsRam };
+}
+
+impl RamNor {
+    /// A device over these bytes, as many as a flash may have. It is idle and on.
+    pub fn of_bytes(bytes: Vec<u8>, polls: u32) -> RamNor
+        requires { IsFlashSize (length bytes.items) }
+        ensures bytes { result.bytes ≡ bytes.items }
+        ensures polls { result.polls ≡ polls }
+        ensures idle { result.running ≡ None }
+        ensures steps { result.steps ≡ 0 }
+    {
+        RamNor {
+            bytes,
+            polls,
+            running: None,
+            left: 0,
+            steps: 0,
+        }
+    }
+
+    /// Gives the bytes back.
+    pub fn into_bytes(self) -> Vec<u8>
+        requires { self.running ≡ None }
+        ensures { result.items ≡ self.bytes }
+    {
+        self.bytes
+    }
+}
+
+impl Nor for RamNor {
+    type Setting = ();
+
+    ghost use Rattle.std.specs.Prelude.{◌≡◌, Some, false, length};
+    ghost use Rattle.nor_device.specs.declared.nor.StepEnd.TheVariants as ends;
+    ghost use Rattle.nor_device.specs.RamView.{ram_sized};
+
+    ghost bytes = { λ d. Some d.bytes };
+
+    ghost size = { λ d. length d.bytes };
+
+    ghost running = { λ d. d.running };
+
+    ghost left = { λ d. d.left };
+
+    ghost off = { λ d. false };
+
+    ghost steps = { λ d. d.steps };
+
+    ghost faults = { λ d. 0 };
+
+    ghost setting = { λ d. tt };
+
+    ghost may_end = { λ set n end. end ≡ ends.Done };
+
+    ghost may_tear = { λ set n old step new. ⊥ };
+
+    ghost may_refuse = { λ set n. ⊥ };
+
+    ghost must_refuse = { λ set n. ⊥ };
+
+    ghost sized = { ram_sized };
+
+    fn size(&self) -> u32 {
+        self.bytes.len() as u32
+    }
+
+    fn read(&mut self, at: u32, out: &mut [u8]) -> Result<(), NorFault> {
+        let at = at as usize;
+        out.copy_from_slice(&self.bytes[at..at + out.len()]);
+        Ok(())
+    }
+
+    fn start(&mut self, step: &Step) -> Result<(), NorFault> {
+        self.running = Some(step.again());
+        self.left = self.polls;
+        self.steps = self.steps.saturating_add(1);
+        Ok(())
+    }
+
+    fn poll(&mut self) -> Result<Ready, NorFault> {
+        if self.left > 0 {
+            self.left -= 1;
+            return Ok(Ready::Busy);
+        }
+        if let Some(step) = self.running.take() {
+            apply(&mut self.bytes, &step);
+        }
+        Ok(Ready::Ready)
+    }
+}
+
+/// These are as many bytes as a flash may have: 1, 2, 4, 8 or 16 MiB.
+pub fn is_flash_size(bytes: usize) -> bool
+    ensures { IsTrue result ↔ IsFlashSize bytes }
+{
+    matches!(bytes, 1_048_576 | 2_097_152 | 4_194_304 | 8_388_608 | 16_777_216)
+}
+
+// Makes the step in the bytes.
+fn apply(bytes: &mut [u8], step: &Step)
+    requires { end_of step.now ≤ length bytes.old }
+    ensures { bytes.new ≡ applied bytes.old step.now }
+{
+    match step {
+        Step::Erase { sector } => {
+            let start = *sector as usize * SECTOR_SIZE as usize;
+            erase(bytes, start, SECTOR_SIZE as usize);
+        }
+        Step::Program { at, bytes: page } => program(bytes, *at as usize, page.bytes()),
+    }
+}
+
+// Sets the bytes of the range to 0xFF.
+fn erase(bytes: &mut [u8], start: usize, len: usize)
+    requires { start + len ≤ length bytes.old }
+    ensures { bytes.new ≡ take start bytes.old ++ replicate len 255 ++ drop (start + len) bytes.old }
+{
+    bytes[start..start + len].fill(0xFF);
+}
+
+// ANDs the data into the bytes.
+fn program(bytes: &mut [u8], start: usize, data: &[u8])
+    requires { start + length «data».now ≤ length bytes.old }
+    ensures { bytes.new ≡ take start bytes.old ++ anded (part_of bytes.old start (length «data».now)) «data».now ++ drop (start + length «data».now) bytes.old }
+{
+    and_into(&mut bytes[start..start + data.len()], data);
+}
+
+// ANDs each byte with the one of the data.
+fn and_into(part: &mut [u8], data: &[u8])
+    requires { length part.old ≡ length «data».now }
+    ensures { part.new ≡ anded part.old «data».now }
+{
+    for i in 0..part.len() {
+        part[i] &= data[i];
+    }
+}

@@ -1,0 +1,46 @@
+//! The two commands that change a NOR flash: the erase of a sector sets bits, a program clears some.
+
+ghost use Rattle.std.specs.Prelude.{◌≡◌, ◌≤◌, ◌^◌};
+
+use crate::page::Page;
+
+/// The bytes of a sector, the least that one erase sets to 0xFF.
+pub const SECTOR_SIZE: u32 = 4096;
+
+/// One change of the flash.
+#[derive(Drop)]
+pub enum Step {
+    /// Sets the 4096 bytes of a sector to 0xFF. Sector n begins at address 4096 n.
+    Erase { sector: u32 },
+    /// ANDs the bytes into the flash from the address on.
+    Program { at: u32, bytes: Page },
+}
+
+impl Step {
+    ghost use Rattle.nor_device.specs.Flash.{start_of, len_of, end_of};
+
+    /// The first address and the length of what the step may change.
+    pub fn range(&self) -> (u32, u32)
+        requires { end_of self.now ≤ 2 ^ 32 }
+        ensures first { result.0 ≡ start_of self.now }
+        ensures length { result.1 ≡ len_of self.now }
+    {
+        match self {
+            Step::Erase { sector } => (*sector * SECTOR_SIZE, SECTOR_SIZE),
+            Step::Program { at, bytes } => (*at, bytes.bytes().len() as u32),
+        }
+    }
+
+    /// The same step once more.
+    pub fn again(&self) -> Step
+        ensures { result ≡ self.now }
+    {
+        match self {
+            Step::Erase { sector } => Step::Erase { sector: *sector },
+            Step::Program { at, bytes } => Step::Program {
+                at: *at,
+                bytes: bytes.again(),
+            },
+        }
+    }
+}
