@@ -1,5 +1,5 @@
 -- What the calls of a device say of it.
-use Rattle.std.specs.Prelude.{◌≡◌, ◌↔◌, ℕ, ◌+◌, ◌-◌, ◌^◌, ◌<◌, ◌≤◌, min, Bool, IsTrue, List, length, take, drop, Option, None, Some, IsSome, IfSome, Result, IsErrOf}
+use Rattle.std.specs.Prelude.{◌≡◌, ◌↔◌, ◌⊎◌, ℕ, ◌+◌, ◌-◌, ◌^◌, ◌<◌, ◌≤◌, min, Bool, IsTrue, List, length, take, drop, Option, None, Some, IsSome, IfSome, Result, IsErrOf}
 use Rattle.nor_device.specs.declared.step.Step.{Step}
 use Rattle.nor_device.specs.declared.nor.StepEnd.{StepEnd}
 use Rattle.nor_device.specs.declared.nor.StepEnd.TheVariants as ends
@@ -58,3 +58,15 @@ module _ {D : Type 0} (bytes : D → Option (List ℕ)) (running : D → Option 
     pub running_same : running new ≡ running old
     pub left_falls : left new < left old
     pub bytes_same : bytes new ≡ bytes old
+
+-- where the device tells its bytes, they are those behind the step
+abbrev pub IsAfter : Step → Option (List ℕ) → Option (List ℕ) → Type 0
+IsAfter step old new = IfSome old (λ flash. new ≡ Some (applied flash step))
+
+-- where the device tells its bytes, it still tells them, and they are torn by the step
+abbrev pub IsTornBy : Step → Option (List ℕ) → Option (List ℕ) → Type 0
+IsTornBy step old new = IfSome old (λ flash. (left : List ℕ) × (new ≡ Some left) × Torn flash step left)
+
+-- the setting allows that the next step isn't begun, or that it ends so
+abbrev pub MayMissStep : {S : Type 0} → (S → ℕ → StepEnd → Type 0) → (S → ℕ → Type 0) → S → ℕ → NorFault → Type 0
+MayMissStep may_end may_refuse setting steps why = may_refuse setting steps ⊎ may_end setting (one_more steps) (end_by why)

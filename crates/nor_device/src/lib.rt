@@ -1,13 +1,15 @@
 //! The flash device of every layer: its steps, what a call of it means, and a device in memory.
 #![tactic(auto)]
 
+mod laws;
 mod make;
 mod nor;
 mod page;
 mod ram;
 mod step;
 
-pub use make::finish;
+pub use laws::{laws_of_steps, laws_of_torn_flashes};
+pub use make::{finish, make_step};
 pub use nor::{Nor, NorFault, Ready, StepEnd};
 pub use page::{PAGE_SIZE, Page};
 pub use ram::{RamNor, is_flash_size};

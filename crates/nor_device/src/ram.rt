@@ -1,9 +1,9 @@
 //! A flash in memory: each step is made in its last poll.
 
-ghost use Rattle.std.specs.Prelude.{◌≡◌, ◌↔◌, ◌≤◌, ◌+◌, ◌++◌, IsTrue, None, length, take, drop, replicate};
+ghost use Rattle.std.specs.Prelude.{◌≡◌, ◌↔◌, ◌≤◌, ◌+◌, ◌++◌, IsTrue, None, IsOk, length, take, drop, replicate};
 ghost use Rattle.nor_device.specs.Flash.{end_of, applied, anded};
 ghost use Rattle.nor_device.specs.Device.{part_of};
-ghost use Rattle.nor_device.specs.Ram.{IsFlashSize};
+ghost use Rattle.nor_device.specs.Ram.{IsFlashSize, begun, polled, poll_answer};
 
 use crate::nor::{Nor, NorFault, Ready};
 use crate::step::{SECTOR_SIZE, Step};
@@ -96,20 +96,33 @@ impl Nor for RamNor {
         self.bytes.len() as u32
     }
 
-    fn read(&mut self, at: u32, out: &mut [u8]) -> Result<(), NorFault> {
+    fn read(&mut self, at: u32, out: &mut [u8]) -> Result<(), NorFault>
+        requires { at + length out.old ≤ length self.old.bytes }
+        ensures ok { IsOk result }
+        ensures bytes { out.new ≡ part_of self.old.bytes at (length out.old) }
+        ensures same { self.new ≡ self.old }
+    {
         let at = at as usize;
         out.copy_from_slice(&self.bytes[at..at + out.len()]);
         Ok(())
     }
 
-    fn start(&mut self, step: &Step) -> Result<(), NorFault> {
+    fn start(&mut self, step: &Step) -> Result<(), NorFault>
+        requires { end_of step.now ≤ length self.old.bytes }
+        ensures ok { IsOk result }
+        ensures begun { self.new ≡ begun self.old step.now }
+    {
         self.running = Some(step.again());
         self.left = self.polls;
         self.steps = self.steps.saturating_add(1);
         Ok(())
     }
 
-    fn poll(&mut self) -> Result<Ready, NorFault> {
+    fn poll(&mut self) -> Result<Ready, NorFault>
+        ensures answer { result ≡ Ok (poll_answer self.old) }
+        ensures after { self.new ≡ polled self.old }
+        ensures size { length self.new.bytes ≡ length self.old.bytes }
+    {
         if self.left > 0 {
             self.left -= 1;
             return Ok(Ready::Busy);
