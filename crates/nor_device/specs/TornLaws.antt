@@ -34,14 +34,17 @@ pub torn_byte_self : (step : Step) (k byte : ℕ) → IsTornByte step k byte byt
 torn_byte_self (Erase sector) k byte = tt
 torn_byte_self (Program at page) k byte = torn_program (slice_index page k) byte byte (and_self byte) refl
 
--- a byte that a step has changed is torn
-pub torn_byte_changed : (step : Step) (k byte : ℕ) → IsTornByte step k byte (changed_byte step k byte)
-torn_byte_changed (Erase sector) k byte = tt
-torn_byte_changed (Program at page) k byte =
-    let d = slice_index page k in
+-- a byte that a program has changed is torn
+pub torn_program_made : (data_byte byte : ℕ) → IsTornProgram data_byte byte (bit_and byte data_byte)
+torn_program_made d byte =
     let within : bit_and (bit_and byte d) byte ≡ bit_and byte d = and_comm (bit_and byte d) byte ∙ sym (and_assoc d byte byte) ∙ ap (λ (x : ℕ). bit_and x d) (and_self byte) in
     let kept : bit_and (bit_and byte d) d ≡ bit_and byte d = and_assoc d byte d ∙ ap (λ (x : ℕ). bit_and byte x) (and_self d) in
     torn_program d byte (bit_and byte d) within kept
+
+-- a byte that a step has changed is torn
+pub torn_byte_changed : (step : Step) (k byte : ℕ) → IsTornByte step k byte (changed_byte step k byte)
+torn_byte_changed (Erase sector) k byte = tt
+torn_byte_changed (Program at page) k byte = torn_program_made (slice_index page k) byte
 
 -- torn twice by one step is torn once
 pub torn_byte_twice : (step : Step) (k a b c : ℕ) → IsTornByte step k a b → IsTornByte step k b c → IsTornByte step k a c

@@ -1,0 +1,92 @@
+-- The device whose power goes off, or which fails, in a step of a chosen number.
+use Rattle.std.specs.Prelude.{◌≡◌, ◌⊎◌, ℕ, ◌+◌, ◌<◌, nat_lt, if◌then◌else◌, Bool, true, List, Option, Some, None, IfSome}
+use Rattle.nor_device.specs.declared.step.Step.{Step}
+use Rattle.nor_device.specs.declared.nor.StepEnd.{StepEnd}
+use Rattle.nor_device.specs.declared.nor.StepEnd.TheVariants as ends
+use Rattle.nor_device.specs.declared.nor.NorFault.{NorFault}
+use Rattle.nor_device.specs.Device.{end_by}
+use Rattle.crash_images.specs.declared.cut.Health.{Health}
+use Rattle.crash_images.specs.declared.cut.Health.TheVariants.{Sound, Due, Off, Failed}
+use Rattle.crash_images.specs.declared.cut.CutSetting.{CutSetting}
+use Rattle.crash_images.specs.Tear.{torn_by}
+
+-- what a contract sees of it: the device inside, the step in which the power goes off, the tear number, the step that
+-- fails, the number of steps begun, the faults that it gave by itself, and how it is
+pub record CutDevice (D : Type 0) : Type 0 where
+  pub inner : D
+  pub cut : Option ℕ
+  pub tear : ℕ
+  pub fail : Option ℕ
+  pub steps : ℕ
+  pub faults : ℕ
+  pub health : Health
+
+-- a chosen number is still to come behind this one
+abbrev pub IsAhead : Option ℕ → ℕ → Type 0
+IsAhead None n = Unit {0}
+IsAhead (Some chosen) n = n < chosen
+
+-- at most one of the two is given
+abbrev pub NotBoth : Option ℕ → Option ℕ → Type 0
+NotBoth cut fail = (cut ≡ None) ⊎ (fail ≡ None)
+
+-- the number of the step that ends badly
+abbrev pub IsBad : Option ℕ → Option ℕ → ℕ → Type 0
+IsBad cut fail n = (cut ≡ Some n) ⊎ (fail ≡ Some n)
+
+-- a chosen number, as long as it is still to come
+abbrev pub unspent : Option ℕ → ℕ → Option ℕ
+unspent None n = None
+unspent (Some chosen) n = if nat_lt n chosen then Some chosen else None
+
+-- with the power on again, and a number that has come spent
+abbrev pub restarted : {D : Type 0} → CutDevice D → CutDevice D
+restarted device = record device { cut = unspent device.cut device.steps; fail = unspent device.fail device.steps; health = Sound }
+
+-- the step that runs: the one that is to be torn, or that of the device inside
+abbrev pub running_by : Health → Option Step → Option Step
+running_by (Due step) inner = Some step
+running_by Sound inner = inner
+running_by Off inner = inner
+running_by Failed inner = inner
+
+-- the polls that are left: a step that is to be torn ends at the first
+abbrev pub left_by : Health → ℕ → ℕ
+left_by (Due step) inner = 0
+left_by Sound inner = inner
+left_by Off inner = inner
+left_by Failed inner = inner
+
+-- the power is off, here or inside
+abbrev pub off_by : Health → Bool → Bool
+off_by Off inner = true
+off_by Sound inner = inner
+off_by (Due step) inner = inner
+off_by Failed inner = inner
+
+-- a device of this setting may refuse a call
+abbrev pub MayRefuse : {S : Type 0} → (S → ℕ → StepEnd → Type 0) → (S → ℕ → Type 0) → S → Type 0
+MayRefuse may_end may_refuse setting = (n : ℕ) × (may_refuse setting n ⊎ ((why : NorFault) × may_end setting n (end_by why)))
+
+-- how the step of this number ends by the choice: whole before the chosen one, and then no more
+abbrev pub EndsBy : Option ℕ → Option ℕ → ℕ → StepEnd → Type 0
+EndsBy cut fail n ends.Done = IsAhead cut n × IsAhead fail n
+EndsBy cut fail n ends.Cut = cut ≡ Some n
+EndsBy cut fail n ends.Failed = fail ≡ Some n
+
+module _ {S : Type 0} (may_end : S → ℕ → StepEnd → Type 0) (may_refuse : S → ℕ → Type 0) where
+  -- a step ends by the choice, or badly where the device inside may refuse a call
+  abbrev pub CutMayEnd : CutSetting S → ℕ → StepEnd → Type 0
+  CutMayEnd set n end = EndsBy set.cut set.fail n end ⊎ (MayRefuse may_end may_refuse set.inner × ((why : NorFault) × (end ≡ end_by why)))
+
+  -- a refused poll leaves the flash that the tear number names, or any torn one where the device inside may refuse a call
+  abbrev pub CutMayTear : CutSetting S → ℕ → List ℕ → Step → List ℕ → Type 0
+  CutMayTear set n flash step left = (left ≡ torn_by flash step set.tear) ⊎ MayRefuse may_end may_refuse set.inner
+
+  -- a call may be refused behind the chosen step, or where the device inside may refuse one
+  abbrev pub CutMayRefuse : CutSetting S → ℕ → Type 0
+  CutMayRefuse set n = IsBad set.cut set.fail n ⊎ MayRefuse may_end may_refuse set.inner
+
+-- where the device tells its bytes, they are those that the tear number names
+abbrev pub IsTornByNumber : Step → ℕ → Option (List ℕ) → Option (List ℕ) → Type 0
+IsTornByNumber step tear old new = IfSome old (λ flash. new ≡ Some (torn_by flash step tear))
