@@ -1,18 +1,20 @@
 -- What calls on the device inside leave of the bytes that it tells.
-use Rattle.std.proofs.Common.{◌≡◌, ◌⊎◌, ◌<◌, ◌≤◌, ◌+◌, ℕ, List, [], ◌++◌, length, get_or, take, drop, Option, Some, None, Result, Ok, Err, IfErr, OnErr, IfSome, Bool, true, ◌-◌, refl, sym, ◌∙◌, ap, subst, inl, inr, arith, take-append-drop, length-drop}
+use Rattle.std.proofs.Common.{◌≡◌, ◌⊎◌, ◌<◌, ◌≤◌, ◌+◌, ℕ, List, [], ◌++◌, length, get_or, take, drop, Option, Some, None, Result, Ok, Err, IfErr, OnOk, OnErr, IfSome, Bool, true, ◌-◌, refl, sym, ◌∙◌, ap, subst, inl, inr, arith, take-append-drop, length-drop}
 use Rattle.std.proofs.lemmas.List.{length-take, take-take, drop-take}
 use Rattle.nor_device.specs.declared.step.Step.{Step}
 use Rattle.nor_device.specs.declared.step.Step.TheVariants.{Erase, Program}
 use Rattle.nor_device.specs.declared.nor.StepEnd.{StepEnd}
 use Rattle.nor_device.specs.declared.nor.NorFault.{NorFault}
+use Rattle.nor_device.specs.declared.nor.Ready.{Ready}
 use Rattle.nor_device.specs.Flash.{start_of, len_of, end_of, applied, changed_byte, IsInOnePage}
 use Rattle.nor_device.specs.Torn.{IsTornByte, Torn}
-use Rattle.nor_device.specs.Device.{IsAfter, IsTornBy, MayMissStep, one_more, end_by, part_of}
+use Rattle.nor_device.specs.Device.{IsAfter, IsTornBy, MayMissStep, IsLeftTorn, one_more, end_by, part_of}
 use Rattle.nor_device.specs.TornLaws.{torn_applied, torn_self, torn_untouched}
 use Rattle.crash_images.specs.Tear.{masked, torn_part, torn_by, is_erase}
-use Rattle.crash_images.specs.TearLaws.{applied_masked, torn_masked, applied_nothing, applied_more, applied_erased, length_masked}
+use Rattle.crash_images.specs.TearLaws.{tear_is_torn, applied_masked, torn_masked, applied_nothing, applied_more, applied_erased, length_masked}
 use Rattle.crash_images.specs.Outside.{SameOutside, StaysOutside, outside_torn, torn_outside, outside_wider, outside_twice}
-use Rattle.crash_images.specs.Cut.{MayRefuse, IsTornByNumber}
+use Rattle.crash_images.specs.Cut.{MayRefuse, TearLeaves, IsTornByNumber, CutMayEnd}
+use Rattle.crash_images.specs.declared.cut.CutSetting.{CutSetting}
 
 -- a program with the masked data leaves what the tear number names
 pub program_torn : (at tear : ℕ) (page bytes : List ℕ) (old new : Option (List ℕ)) → bytes ≡ masked tear 0 page → IsAfter (Program at bytes) old new → IsTornByNumber (Program at page) tear old new
@@ -147,3 +149,24 @@ untouched step old same is = torn_untouched step old same is
 -- what a step leaves is the same from told bytes that are the same
 pub refused_on : (step : Step) (old same new : Option (List ℕ)) → same ≡ old → IsTornBy step same new → IsTornBy step old new
 refused_on step old same new is torn = subst (λ (m : Option (List ℕ)). IsTornBy step m new) is torn
+
+-- a step that was torn is left torn, by the number or where a refusal is allowed
+pub left_torn : {S : Type 0} (may_end : S → ℕ → StepEnd → Type 0) (may_refuse : S → ℕ → Type 0) (setting : S) (tear : ℕ) (step : Step) (old new : Option (List ℕ)) (r : Result (Unit {0}) NorFault)
+    → OnOk r (IsTornByNumber step tear old new) → OnErr r (IsTornBy step old new) → OnErr r (MayRefuse may_end may_refuse setting) → IsLeftTorn (TearLeaves may_end may_refuse setting tear) (Some step) old new
+left_torn may_end may_refuse setting tear step None new r torn refused allowed = tt
+left_torn may_end may_refuse setting tear step (Some flash) new (Ok x) torn refused allowed = (torn_by flash step tear, torn, tear_is_torn flash step tear, inl refl)
+left_torn may_end may_refuse setting tear step (Some flash) new (Err why) torn refused allowed = (refused.0, refused.1, refused.2, inr allowed)
+
+-- a poll that the device inside refused leaves its step torn
+pub poll_refused : {S : Type 0} (may_end : S → ℕ → StepEnd → Type 0) (may_refuse : S → ℕ → Type 0) (may_tear : S → ℕ → List ℕ → Step → List ℕ → Type 0) (setting : S) (steps tear : ℕ) (running : Option Step) (old new : Option (List ℕ)) (r : Result Ready NorFault)
+    → OnErr r (IsLeftTorn (may_tear setting steps) running old new) → IfErr r (λ why. may_end setting steps (end_by why)) → OnErr r (IsLeftTorn (TearLeaves may_end may_refuse setting tear) running old new)
+poll_refused may_end may_refuse may_tear setting steps tear running old new (Ok x) torn ended = torn
+poll_refused may_end may_refuse may_tear setting steps tear None old new (Err why) torn ended = tt
+poll_refused may_end may_refuse may_tear setting steps tear (Some step) None new (Err why) torn ended = tt
+poll_refused may_end may_refuse may_tear setting steps tear (Some step) (Some flash) new (Err why) torn ended = (torn.0, torn.1, torn.2, inr (steps, inr (why, ended)))
+
+-- and ends it as the setting inside allows
+pub poll_ended : {S : Type 0} (may_end : S → ℕ → StepEnd → Type 0) (may_refuse : S → ℕ → Type 0) (set : CutSetting S) (steps n : ℕ) (r : Result Ready NorFault)
+    → IfErr r (λ why. may_end set.inner steps (end_by why)) → IfErr r (λ why. CutMayEnd may_end may_refuse set n (end_by why))
+poll_ended may_end may_refuse set steps n (Ok x) ended = ended
+poll_ended may_end may_refuse set steps n (Err why) ended = inr ((steps, inr (why, ended)), (why, refl))

@@ -1,9 +1,11 @@
 -- The device whose power goes off, or which fails, in a step of a chosen number.
-use Rattle.std.specs.Prelude.{◌≡◌, ◌⊎◌, ℕ, ◌+◌, ◌<◌, nat_lt, if◌then◌else◌, Bool, true, List, Option, Some, None, IfSome}
+use Rattle.std.specs.Prelude.{◌≡◌, ◌⊎◌, ℕ, ◌+◌, ◌<◌, ◌≤◌, ◌^◌, nat_lt, if◌then◌else◌, Bool, true, false, List, Option, Some, None, IfSome}
 use Rattle.nor_device.specs.declared.step.Step.{Step}
 use Rattle.nor_device.specs.declared.nor.StepEnd.{StepEnd}
 use Rattle.nor_device.specs.declared.nor.StepEnd.TheVariants as ends
 use Rattle.nor_device.specs.declared.nor.NorFault.{NorFault}
+use Rattle.nor_device.specs.declared.nor.NorFault.TheVariants as faults
+use Rattle.nor_device.specs.Flash.{end_of, IsInOnePage}
 use Rattle.nor_device.specs.Device.{end_by}
 use Rattle.crash_images.specs.declared.cut.Health.{Health}
 use Rattle.crash_images.specs.declared.cut.Health.TheVariants.{Sound, Due, Off, Failed}
@@ -35,13 +37,13 @@ abbrev pub IsBad : Option ℕ → Option ℕ → ℕ → Type 0
 IsBad cut fail n = (cut ≡ Some n) ⊎ (fail ≡ Some n)
 
 -- a chosen number, as long as it is still to come
-abbrev pub unspent : Option ℕ → ℕ → Option ℕ
-unspent None n = None
-unspent (Some chosen) n = if nat_lt n chosen then Some chosen else None
+abbrev pub unspent_of : Option ℕ → ℕ → Option ℕ
+unspent_of None n = None
+unspent_of (Some chosen) n = if nat_lt n chosen then Some chosen else None
 
 -- with the power on again, and a number that has come spent
 abbrev pub restarted : {D : Type 0} → CutDevice D → CutDevice D
-restarted device = record device { cut = unspent device.cut device.steps; fail = unspent device.fail device.steps; health = Sound }
+restarted device = record device { cut = unspent_of device.cut device.steps; fail = unspent_of device.fail device.steps; health = Sound }
 
 -- the step that runs: the one that is to be torn, or that of the device inside
 abbrev pub running_by : Health → Option Step → Option Step
@@ -64,6 +66,11 @@ off_by Sound inner = inner
 off_by (Due step) inner = inner
 off_by Failed inner = inner
 
+-- how the device is behind a step that was refused so
+abbrev pub health_by : NorFault → Health
+health_by faults.Off = Off
+health_by faults.Failed = Failed
+
 -- a device of this setting may refuse a call
 abbrev pub MayRefuse : {S : Type 0} → (S → ℕ → StepEnd → Type 0) → (S → ℕ → Type 0) → S → Type 0
 MayRefuse may_end may_refuse setting = (n : ℕ) × (may_refuse setting n ⊎ ((why : NorFault) × may_end setting n (end_by why)))
@@ -74,14 +81,18 @@ EndsBy cut fail n ends.Done = IsAhead cut n × IsAhead fail n
 EndsBy cut fail n ends.Cut = cut ≡ Some n
 EndsBy cut fail n ends.Failed = fail ≡ Some n
 
+-- tearing a step leaves the flash that the tear number names, or any torn one where the device may refuse a call
+abbrev pub TearLeaves : {S : Type 0} → (S → ℕ → StepEnd → Type 0) → (S → ℕ → Type 0) → S → ℕ → List ℕ → Step → List ℕ → Type 0
+TearLeaves may_end may_refuse setting tear flash step left = (left ≡ torn_by flash step tear) ⊎ MayRefuse may_end may_refuse setting
+
 module _ {S : Type 0} (may_end : S → ℕ → StepEnd → Type 0) (may_refuse : S → ℕ → Type 0) where
   -- a step ends by the choice, or badly where the device inside may refuse a call
   abbrev pub CutMayEnd : CutSetting S → ℕ → StepEnd → Type 0
   CutMayEnd set n end = EndsBy set.cut set.fail n end ⊎ (MayRefuse may_end may_refuse set.inner × ((why : NorFault) × (end ≡ end_by why)))
 
-  -- a refused poll leaves the flash that the tear number names, or any torn one where the device inside may refuse a call
+  -- a refused poll leaves what tearing the step leaves
   abbrev pub CutMayTear : CutSetting S → ℕ → List ℕ → Step → List ℕ → Type 0
-  CutMayTear set n flash step left = (left ≡ torn_by flash step set.tear) ⊎ MayRefuse may_end may_refuse set.inner
+  CutMayTear set n = TearLeaves may_end may_refuse set.inner set.tear
 
   -- a call may be refused behind the chosen step, or where the device inside may refuse one
   abbrev pub CutMayRefuse : CutSetting S → ℕ → Type 0
@@ -90,3 +101,24 @@ module _ {S : Type 0} (may_end : S → ℕ → StepEnd → Type 0) (may_refuse :
 -- where the device tells its bytes, they are those that the tear number names
 abbrev pub IsTornByNumber : Step → ℕ → Option (List ℕ) → Option (List ℕ) → Type 0
 IsTornByNumber step tear old new = IfSome old (λ flash. new ≡ Some (torn_by flash step tear))
+
+-- a step is due to be torn: it lies inside, its number is the chosen one, and inside no step runs
+pub record IsDue {D : Type 0} (running : D → Option Step) (size : D → ℕ) (device : CutDevice D) (step : Step) : Type 0 where
+  pub idle : running device.inner ≡ None
+  pub paged : IsInOnePage step
+  pub small : end_of step ≤ 2 ^ 32
+  pub inside : end_of step ≤ size device.inner
+  pub bad : IsBad device.cut device.fail device.steps
+
+module _ {D : Type 0} (running : D → Option Step) (size : D → ℕ) (off : D → Bool) where
+  -- what holds by how the device is: the chosen number is to come, is that of the step that runs, or has come
+  abbrev pub StandsAs : CutDevice D → Health → Type 0
+  StandsAs device Sound = IsAhead device.cut device.steps × IsAhead device.fail device.steps
+  StandsAs device (Due step) = IsDue running size device step
+  StandsAs device Off = (running device.inner ≡ None) × IsBad device.cut device.fail device.steps
+  StandsAs device Failed = (running device.inner ≡ None) × IsBad device.cut device.fail device.steps × (off device.inner ≡ false)
+
+  -- what holds of every such device
+  pub record IsCut (device : CutDevice D) : Type 0 where
+    pub one : NotBoth device.cut device.fail
+    pub stands : StandsAs device device.health

@@ -7,5 +7,5 @@ mod tear;
 mod torn;
 
 pub use crash::Crash;
-pub use cut::CutSetting;
+pub use cut::{CutNor, CutSetting, Health};
 pub use torn::torn_byte;

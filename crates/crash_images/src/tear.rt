@@ -1,19 +1,34 @@
 //! A step that is cut short is made on the device by steps: a program with the bits of the mask left in its data, and an
 //! erase that is followed by programs of the bytes with the bits of the mask set.
 
-ghost use Rattle.std.specs.Prelude.{◌≡◌, ℕ, ◌+◌, ◌*◌, ◌%◌, ◌<◌, ◌≤◌, ◌^◌, true, None, OnOk, OnErr, length, slice_index};
+ghost use Rattle.std.specs.Prelude.{◌≡◌, ℕ, ◌+◌, ◌*◌, ◌%◌, ◌<◌, ◌≤◌, ◌^◌, true, None, Some, OnOk, OnErr, length, slice_index};
 ghost use Rattle.nor_device.specs.declared.step.Step.TheVariants.{Erase, Program};
 ghost use Rattle.nor_device.specs.Flash.{start_of, len_of, end_of, IsInOnePage, IsPageLength};
-ghost use Rattle.nor_device.specs.Device.{HasCause, KeepsSetting, IsAfter, IsTornBy};
+ghost use Rattle.nor_device.specs.Device.{HasCause, KeepsSetting, IsAfter, IsTornBy, IsLeftTorn};
 ghost use Rattle.crash_images.specs.Tear.{masked, is_erase};
 ghost use Rattle.crash_images.specs.Outside.{StaysOutside};
-ghost use Rattle.crash_images.specs.Cut.{MayRefuse, IsTornByNumber};
+ghost use Rattle.crash_images.specs.Cut.{MayRefuse, TearLeaves, IsTornByNumber};
 
 use crate::torn::mask_each;
 use nor_device::{Nor, NorFault, PAGE_SIZE, Page, SECTOR_SIZE, Step, make_step};
 
-// Makes what the tear number leaves of the step.
+// Makes what the tear number leaves of the step, or tears it where the device refuses a call.
 pub(crate) fn tear_step<D: Nor>(inner: &mut D, step: &Step, tear: u64) -> Result<(), NorFault>
+    requires idle { D.running inner.old ≡ None }
+    requires paged { IsInOnePage step.now }
+    requires small { end_of step.now ≤ 2 ^ 32 }
+    requires inside { end_of step.now ≤ D.size inner.old }
+    ensures idle { D.running inner.new ≡ None }
+    ensures left { IsLeftTorn (TearLeaves D.may_end D.may_refuse (D.setting inner.old) tear) (Some step.now) (D.bytes inner.old) (D.bytes inner.new) }
+    ensures allowed { OnErr result (MayRefuse D.may_end D.may_refuse (D.setting inner.old)) }
+    ensures setting { KeepsSetting D.size D.setting inner.old inner.new }
+    ensures cause { HasCause (D.faults inner.old) (D.faults inner.new) (D.off inner.new) result }
+{
+    tear_by_kind(inner, step, tear)
+}
+
+// Makes what the tear number leaves of the step.
+fn tear_by_kind<D: Nor>(inner: &mut D, step: &Step, tear: u64) -> Result<(), NorFault>
     requires idle { D.running inner.old ≡ None }
     requires paged { IsInOnePage step.now }
     requires small { end_of step.now ≤ 2 ^ 32 }
