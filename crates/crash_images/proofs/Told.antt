@@ -28,15 +28,15 @@ program_refused at tear page bytes (Some flash) new is torn =
     (torn.0, torn.1, torn_masked flash torn.0 at tear page (subst (λ (b : List ℕ). Torn flash (Program at b) torn.0) is torn.2))
 
 -- a step that was missed shows that the setting allows a refusal
-pub missed : {S : Type 0} (may_end : S → ℕ → StepEnd → Type 0) (may_refuse : S → ℕ → Type 0) (old mid : S) (steps : ℕ) (r : Result (Unit {0}) NorFault) → mid ≡ old → IfErr r (MayMissStep may_end may_refuse mid steps) → OnErr r (MayRefuse may_end may_refuse old)
+pub missed : {S : Type 0} (may_end : S → ℕ → StepEnd → Type 0) (may_refuse : S → ℕ → NorFault → Type 0) (old mid : S) (steps : ℕ) (r : Result (Unit {0}) NorFault) → mid ≡ old → IfErr r (MayMissStep may_end may_refuse mid steps) → OnErr r (MayRefuse may_end may_refuse old)
 missed may_end may_refuse old mid steps (Ok x) same allowed = allowed
-missed may_end may_refuse old mid steps (Err why) same (inl refused) = (steps, inl (subst (λ s. may_refuse s steps) same refused))
-missed may_end may_refuse old mid steps (Err why) same (inr ended) = (one_more steps, inr (why, subst (λ s. may_end s (one_more steps) (end_by why)) same ended))
+missed may_end may_refuse old mid steps (Err why) same (inl refused) = (steps, why, inl (subst (λ s. may_refuse s steps why) same refused))
+missed may_end may_refuse old mid steps (Err why) same (inr ended) = (one_more steps, why, inr (subst (λ s. may_end s (one_more steps) (end_by why)) same ended))
 
 -- the same where the refusal is known
-pub missed_by : {S : Type 0} (may_end : S → ℕ → StepEnd → Type 0) (may_refuse : S → ℕ → Type 0) (old mid : S) (steps : ℕ) (why : NorFault) → mid ≡ old → MayMissStep may_end may_refuse mid steps why → MayRefuse may_end may_refuse old
-missed_by may_end may_refuse old mid steps why same (inl refused) = (steps, inl (subst (λ s. may_refuse s steps) same refused))
-missed_by may_end may_refuse old mid steps why same (inr ended) = (one_more steps, inr (why, subst (λ s. may_end s (one_more steps) (end_by why)) same ended))
+pub missed_by : {S : Type 0} (may_end : S → ℕ → StepEnd → Type 0) (may_refuse : S → ℕ → NorFault → Type 0) (old mid : S) (steps : ℕ) (why : NorFault) → mid ≡ old → MayMissStep may_end may_refuse mid steps why → MayRefuse may_end may_refuse old
+missed_by may_end may_refuse old mid steps why same (inl refused) = (steps, why, inl (subst (λ s. may_refuse s steps why) same refused))
+missed_by may_end may_refuse old mid steps why same (inr ended) = (one_more steps, why, inr (subst (λ s. may_end s (one_more steps) (end_by why)) same ended))
 
 -- nothing was put back yet
 pub put_none : (at : ℕ) (told : Option (List ℕ)) → IsAfter (Program at []) told told
@@ -151,22 +151,22 @@ pub refused_on : (step : Step) (old same new : Option (List ℕ)) → same ≡ o
 refused_on step old same new is torn = subst (λ (m : Option (List ℕ)). IsTornBy step m new) is torn
 
 -- a step that was torn is left torn, by the number or where a refusal is allowed
-pub left_torn : {S : Type 0} (may_end : S → ℕ → StepEnd → Type 0) (may_refuse : S → ℕ → Type 0) (setting : S) (tear : ℕ) (step : Step) (old new : Option (List ℕ)) (r : Result (Unit {0}) NorFault)
+pub left_torn : {S : Type 0} (may_end : S → ℕ → StepEnd → Type 0) (may_refuse : S → ℕ → NorFault → Type 0) (setting : S) (tear : ℕ) (step : Step) (old new : Option (List ℕ)) (r : Result (Unit {0}) NorFault)
     → OnOk r (IsTornByNumber step tear old new) → OnErr r (IsTornBy step old new) → OnErr r (MayRefuse may_end may_refuse setting) → IsLeftTorn (TearLeaves may_end may_refuse setting tear) (Some step) old new
 left_torn may_end may_refuse setting tear step None new r torn refused allowed = tt
 left_torn may_end may_refuse setting tear step (Some flash) new (Ok x) torn refused allowed = (torn_by flash step tear, torn, tear_is_torn flash step tear, inl refl)
 left_torn may_end may_refuse setting tear step (Some flash) new (Err why) torn refused allowed = (refused.0, refused.1, refused.2, inr allowed)
 
 -- a poll that the device inside refused leaves its step torn
-pub poll_refused : {S : Type 0} (may_end : S → ℕ → StepEnd → Type 0) (may_refuse : S → ℕ → Type 0) (may_tear : S → ℕ → List ℕ → Step → List ℕ → Type 0) (setting : S) (steps tear : ℕ) (running : Option Step) (old new : Option (List ℕ)) (r : Result Ready NorFault)
+pub poll_refused : {S : Type 0} (may_end : S → ℕ → StepEnd → Type 0) (may_refuse : S → ℕ → NorFault → Type 0) (may_tear : S → ℕ → List ℕ → Step → List ℕ → Type 0) (setting : S) (steps tear : ℕ) (running : Option Step) (old new : Option (List ℕ)) (r : Result Ready NorFault)
     → OnErr r (IsLeftTorn (may_tear setting steps) running old new) → IfErr r (λ why. may_end setting steps (end_by why)) → OnErr r (IsLeftTorn (TearLeaves may_end may_refuse setting tear) running old new)
 poll_refused may_end may_refuse may_tear setting steps tear running old new (Ok x) torn ended = torn
 poll_refused may_end may_refuse may_tear setting steps tear None old new (Err why) torn ended = tt
 poll_refused may_end may_refuse may_tear setting steps tear (Some step) None new (Err why) torn ended = tt
-poll_refused may_end may_refuse may_tear setting steps tear (Some step) (Some flash) new (Err why) torn ended = (torn.0, torn.1, torn.2, inr (steps, inr (why, ended)))
+poll_refused may_end may_refuse may_tear setting steps tear (Some step) (Some flash) new (Err why) torn ended = (torn.0, torn.1, torn.2, inr (steps, why, inr ended))
 
 -- and ends it as the setting inside allows
-pub poll_ended : {S : Type 0} (may_end : S → ℕ → StepEnd → Type 0) (may_refuse : S → ℕ → Type 0) (set : CutSetting S) (steps n : ℕ) (r : Result Ready NorFault)
+pub poll_ended : {S : Type 0} (may_end : S → ℕ → StepEnd → Type 0) (may_refuse : S → ℕ → NorFault → Type 0) (set : CutSetting S) (steps n : ℕ) (r : Result Ready NorFault)
     → IfErr r (λ why. may_end set.inner steps (end_by why)) → IfErr r (λ why. CutMayEnd may_end may_refuse set n (end_by why))
 poll_ended may_end may_refuse set steps n (Ok x) ended = ended
-poll_ended may_end may_refuse set steps n (Err why) ended = inr ((steps, inr (why, ended)), (why, refl))
+poll_ended may_end may_refuse set steps n (Err why) ended = inr ((steps, why, inr ended), (why, refl))

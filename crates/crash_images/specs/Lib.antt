@@ -4,3 +4,4 @@ pub mod TearLaws
 pub mod LeftLaws
 pub mod Outside
 pub mod Cut
+pub mod CutLaws

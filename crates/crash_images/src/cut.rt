@@ -1,8 +1,8 @@
 //! A device over another, whose power goes off, or which fails, in the step of a chosen number.
 
-ghost use Rattle.std.specs.Prelude.{◌≡◌, ◌+◌, true, false, None, IfErr, OnOk};
+ghost use Rattle.std.specs.Prelude.{◌≡◌, ◌+◌, true, false, None, IsSome, IfErr, OnOk};
 ghost use Rattle.nor_device.specs.Device.{one_more};
-ghost use Rattle.crash_images.specs.Cut.{IsAhead, NotBoth, running_by, restarted, unspent_of, health_by};
+ghost use Rattle.crash_images.specs.Cut.{IsAhead, NotBoth, IsBad, running_by, left_by, restarted, unspent_of, health_by};
 
 use crate::crash::Crash;
 use crate::tear::tear_step;
@@ -51,7 +51,7 @@ impl<D: Nor> Model for CutNor<D> {
 
     ghost view = { λ d. record { inner = d.inner; cut = d.cut; tear = d.tear; fail = d.fail; steps = d.steps; faults = d.faults; health = d.health } };
 
-    ghost invariant = { λ d. IsCut D.running D.size D.off (record { inner = d.inner; cut = d.cut; tear = d.tear; fail = d.fail; steps = d.steps; faults = d.faults; health = d.health }) };
+    ghost invariant = { λ d. IsCut D.running D.size D.off D.setting D.may_end D.may_refuse (record { inner = d.inner; cut = d.cut; tear = d.tear; fail = d.fail; steps = d.steps; faults = d.faults; health = d.health }) };
 }
 
 impl<D: Nor> CutNor<D> {
@@ -104,6 +104,15 @@ impl<D: Nor> CutNor<D> {
         ensures { result ≡ self.now.faults }
     {
         self.faults
+    }
+
+    /// The chosen step needs no poll but the one that is refused: its first.
+    pub fn chosen_step_needs_no_poll(&self)
+        ensures { IsBad self.now.cut self.now.fail self.now.steps
+            → IsSome (running_by self.now.health (D.running self.now.inner))
+            → left_by self.now.health (D.left self.now.inner) ≡ 0 }
+    {
+        let _ = &self.inner;
     }
 
     /// Gives the device inside back.
@@ -160,7 +169,7 @@ impl<D: Nor> Nor for CutNor<D> {
 
     ghost may_tear = { λ set n old step new. CutMayTear D.may_end D.may_refuse set n old step new };
 
-    ghost may_refuse = { λ set n. CutMayRefuse D.may_end D.may_refuse set n };
+    ghost may_refuse = { λ set n why. CutMayRefuse D.may_end D.may_refuse set n why };
 
     ghost must_refuse = { λ set n. IsBad set.cut set.fail n };
 
@@ -215,6 +224,16 @@ impl<D: Nor> Nor for CutNor<D> {
             }
         }
     }
+}
+
+impl<D: Nor> Crash for CutNor<D> {
+    ghost use Rattle.crash_images.specs.Left.{MayLeave, idle_leaves, running_leaves};
+
+    ghost may_leave = { λ d left. MayLeave (Self.bytes d) (Self.running d) left };
+
+    ghost idle_leaves = { λ d flash left idle is. idle_leaves (Self.bytes d) (Self.running d) flash left idle is };
+
+    ghost torn_leaves = { λ d step flash left runs is. running_leaves (Self.bytes d) (Self.running d) step flash left runs is };
 }
 
 // What the first poll of a step that is due answers: what the device inside did, else as was chosen.

@@ -1,5 +1,5 @@
 -- What the calls of a device say of it.
-use Rattle.std.specs.Prelude.{◌≡◌, ◌↔◌, ◌⊎◌, ℕ, ◌+◌, ◌-◌, ◌^◌, ◌<◌, ◌≤◌, min, Bool, IsTrue, List, length, take, drop, Option, None, Some, IsSome, IfSome, Result, IsErrOf}
+use Rattle.std.specs.Prelude.{◌≡◌, ◌↔◌, ◌⊎◌, ℕ, ◌+◌, ◌-◌, ◌^◌, ◌<◌, ◌≤◌, min, Bool, IsTrue, List, take, drop, Option, None, Some, IfSome, Result, IsErrOf}
 use Rattle.nor_device.specs.declared.step.Step.{Step}
 use Rattle.nor_device.specs.declared.nor.StepEnd.{StepEnd}
 use Rattle.nor_device.specs.declared.nor.StepEnd.TheVariants as ends
@@ -25,6 +25,10 @@ end_by Off = ends.Cut
 abbrev pub part_of : List ℕ → ℕ → ℕ → List ℕ
 part_of flash at len = take len (drop at flash)
 
+-- where the device tells its bytes, these are as many of them from the address on
+abbrev pub IsPart : Option (List ℕ) → ℕ → ℕ → List ℕ → Type 0
+IsPart told at len out = IfSome told (λ flash. out ≡ part_of flash at len)
+
 -- why the answer came: a failure only where the count of faults rose, and off exactly where the power is off
 pub record HasCause {T : Type 0} (before now : ℕ) (off : Bool) (result : Result T NorFault) : Type 0 where
   pub later : before ≤ now
@@ -45,6 +49,13 @@ module _ {D S : Type 0} (size : D → ℕ) (setting : D → S) where
   pub record KeepsSetting (old new : D) : Type 0 where
     pub size_same : size new ≡ size old
     pub setting_same : setting new ≡ setting old
+
+module _ {D S : Type 0} (size : D → ℕ) (setting : D → S) (steps : D → ℕ) where
+  -- what no call but a start changes
+  pub record KeepsSteps (old new : D) : Type 0 where
+    pub size_same : size new ≡ size old
+    pub setting_same : setting new ≡ setting old
+    pub steps_same : steps new ≡ steps old
 
 module _ {D : Type 0} (bytes : D → Option (List ℕ)) (running : D → Option Step) where
   -- the bytes are as before, and no step runs
@@ -67,6 +78,6 @@ IsAfter step old new = IfSome old (λ flash. new ≡ Some (applied flash step))
 abbrev pub IsTornBy : Step → Option (List ℕ) → Option (List ℕ) → Type 0
 IsTornBy step old new = IfSome old (λ flash. (left : List ℕ) × (new ≡ Some left) × Torn flash step left)
 
--- the setting allows that the next step isn't begun, or that it ends so
-abbrev pub MayMissStep : {S : Type 0} → (S → ℕ → StepEnd → Type 0) → (S → ℕ → Type 0) → S → ℕ → NorFault → Type 0
-MayMissStep may_end may_refuse setting steps why = may_refuse setting steps ⊎ may_end setting (one_more steps) (end_by why)
+-- the setting allows that the next step is refused so, at its start or in a poll
+abbrev pub MayMissStep : {S : Type 0} → (S → ℕ → StepEnd → Type 0) → (S → ℕ → NorFault → Type 0) → S → ℕ → NorFault → Type 0
+MayMissStep may_end may_refuse setting steps why = may_refuse setting steps why ⊎ may_end setting (one_more steps) (end_by why)

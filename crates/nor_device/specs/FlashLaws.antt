@@ -1,5 +1,5 @@
 -- What a step does, byte by byte.
-use Rattle.std.specs.Prelude.{◌≡◌, ◌⊎◌, ℕ, ◌+◌, ◌-◌, ◌<◌, ◌≤◌, true, false, List, [], ◌∷◌, ◌++◌, length, take, drop, slice_index, bit_and, replicate, refl}
+use Rattle.std.specs.Prelude.{◌≡◌, ◌⊎◌, ℕ, ◌-◌, ◌<◌, ◌≤◌, true, false, List, [], ◌∷◌, ◌++◌, length, take, drop, slice_index, bit_and, refl}
 use Rattle.std.proofs.Common.{zero, suc, get_or, sym, ◌∙◌, ap, inl, inr, arith, length-drop}
 use Rattle.std.proofs.lemmas.List.{length-take, length-replicate, get_or-replicate}
 use Rattle.std.proofs.lemmas.Bool.{cases_lt}

@@ -1,6 +1,5 @@
 -- How the fields of the device in memory show in a contract.
 use Rattle.std.specs.Prelude.{◌≡◌, ℕ, ◌^◌, ◌<◌, ◌≤◌, List, length, Some}
-use Rattle.std.proofs.Common.{sym}
 use Rattle.nor_device.specs.declared.step.Step.{Step}
 use Rattle.nor_device.specs.declared.ram.RamNor.TheInside.{Inside}
 use Rattle.nor_device.specs.Flash.{end_of}

@@ -1,6 +1,6 @@
 -- A list with one of its parts replaced by another that is as long, byte by byte.
 use Rattle.std.specs.Prelude.{◌≡◌, ℕ, ◌+◌, ◌-◌, ◌<◌, ◌≤◌, List, ◌++◌, length, take, drop, slice_index}
-use Rattle.std.proofs.Common.{get_or, sym, ◌∙◌, ap, arith, append_assoc, length-drop, length-append}
+use Rattle.std.proofs.Common.{get_or, ◌∙◌, ap, arith, length-drop, length-append}
 use Rattle.std.proofs.lemmas.List.{length-take, get_or-take, get_or-drop, get_or_append_left, get_or-append_right}
 
 module _ (flash : List ℕ) (start len : ℕ) (mid : List ℕ) (same : length mid ≡ length (take len (drop start flash))) where

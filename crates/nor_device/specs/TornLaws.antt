@@ -1,9 +1,9 @@
 -- What holds of every torn flash.
-use Rattle.std.specs.Prelude.{◌≡◌, ◌⊎◌, ℕ, ◌+◌, ◌-◌, ◌<◌, ◌≤◌, List, length, slice_index, bit_and, bit_or, refl, Option, Some, None}
-use Rattle.std.proofs.Common.{get_or, sym, ◌∙◌, ap, subst, inl, inr, arith}
+use Rattle.std.specs.Prelude.{◌≡◌, ℕ, ◌-◌, ◌<◌, List, length, slice_index, bit_and, bit_or, refl, Option, Some, None}
+use Rattle.std.proofs.Common.{sym, ◌∙◌, ap, subst, inl, inr, arith}
 use Rattle.std.proofs.lemmas.List.{ext_get_or}
 use Rattle.std.proofs.lemmas.Bool.{cases_lt}
-use Rattle.std.proofs.lemmas.Nat.{and_assoc, and_comm, and_or_self}
+use Rattle.std.proofs.lemmas.Nat.{and_assoc, and_comm}
 use Rattle.std.specs.Int.Bits.{or_add_and, and_self}
 use Rattle.nor_device.specs.declared.step.Step.{Step}
 use Rattle.nor_device.specs.declared.step.Step.TheVariants.{Erase, Program}
@@ -75,8 +75,8 @@ torn_applied flash step = record {
   byte = λ i inside. record {
     outside = λ out. byte_applied flash step i inside ∙ byte_after_outside step i (slice_index flash i) out;
     inside = λ from to.
-      let is = byte_applied flash step i inside ∙ byte_after_inside step i (slice_index flash i) from to in
-      subst (λ (b : ℕ). IsTornByte step (i - start_of step) (slice_index flash i) b) (sym is) (torn_byte_changed step (i - start_of step) (slice_index flash i));
+        let is = byte_applied flash step i inside ∙ byte_after_inside step i (slice_index flash i) from to in
+        subst (λ (b : ℕ). IsTornByte step (i - start_of step) (slice_index flash i) b) (sym is) (torn_byte_changed step (i - start_of step) (slice_index flash i));
   };
 }
 
@@ -85,13 +85,13 @@ pub torn_twice : (first second third : List ℕ) (step : Step) → Torn first st
 torn_twice first second third step one two = record {
   same_length = two.same_length ∙ one.same_length;
   byte = λ i inside.
-    let within : i < length second = omega (arith, inside, one.same_length) in
-    let a = one.byte i inside in
-    let b = two.byte i within in
-    record {
-      outside = λ out. b.outside out ∙ a.outside out;
-      inside = λ from to. torn_byte_twice step (i - start_of step) (slice_index first i) (slice_index second i) (slice_index third i) (a.inside from to) (b.inside from to);
-    };
+      let within : i < length second = omega (arith, inside, one.same_length) in
+      let a = one.byte i inside in
+      let b = two.byte i within in
+      record {
+        outside = λ out. b.outside out ∙ a.outside out;
+        inside = λ from to. torn_byte_twice step (i - start_of step) (slice_index first i) (slice_index second i) (slice_index third i) (a.inside from to) (b.inside from to);
+      };
 }
 
 -- the step makes of a torn byte what it makes of the byte before
@@ -108,9 +108,9 @@ byte_after_torn step i old new torn = elim (cases_lt i (start_of step)) [
 pub applied_torn : (old new : List ℕ) (step : Step) → Torn old step new → applied new step ≡ applied old step
 applied_torn old new step torn =
     ext_get_or 0 (applied new step) (applied old step) (length_applied new step ∙ torn.same_length ∙ sym (length_applied old step)) (λ i inside.
-      let in_new : i < length new = omega (arith, inside, length_applied new step) in
-      let in_old : i < length old = omega (arith, in_new, torn.same_length) in
-      byte_applied new step i in_new ∙ byte_after_torn step i (slice_index old i) (slice_index new i) (torn.byte i in_old) ∙ sym (byte_applied old step i in_old))
+    let in_new : i < length new = omega (arith, inside, length_applied new step) in
+    let in_old : i < length old = omega (arith, in_new, torn.same_length) in
+    byte_applied new step i in_new ∙ byte_after_torn step i (slice_index old i) (slice_index new i) (torn.byte i in_old) ∙ sym (byte_applied old step i in_old))
 
 -- told bytes that a step has not touched are torn of themselves
 pub torn_untouched : (step : Step) (old new : Option (List ℕ)) → new ≡ old → IsTornBy step old new

@@ -6,15 +6,18 @@ ghost use Rattle.nor_device.specs.Flash.{applied, after_steps, byte_after};
 ghost use Rattle.nor_device.specs.Torn.{Torn};
 
 /// What a step makes of each byte, and a list of steps of the flash.
-#[tactic(auto, using(crate::specs::FlashLaws::length_applied, crate::specs::FlashLaws::byte_applied, crate::specs::FlashLaws::after_steps_append))]
+#[tactic(auto, using(
+    crate::specs::FlashLaws::length_applied,
+    crate::specs::FlashLaws::byte_applied,
+    crate::specs::FlashLaws::after_steps_append
+))]
 pub fn laws_of_steps()
     ensures length { (flash : List ℕ) (step : Step) → length (applied flash step) ≡ length flash }
     ensures byte { (flash : List ℕ) (step : Step) (i : ℕ) → i < length flash
         → slice_index (applied flash step) i ≡ byte_after step i (slice_index flash i) }
     ensures first_some { (flash : List ℕ) (made rest : List Step)
         → after_steps flash (made ++ rest) ≡ after_steps (after_steps flash made) rest }
-{
-}
+{}
 
 /// What a step that was cut short may leave: nothing done, all done, and with it all that a second cut leaves.
 /// The step made again over a torn flash is the step made once.
@@ -26,5 +29,4 @@ pub fn laws_of_torn_flashes()
         → Torn first step second → Torn second step third → Torn first step third }
     ensures again { (flash torn : List ℕ) (step : Step)
         → Torn flash step torn → applied torn step ≡ applied flash step }
-{
-}
+{}

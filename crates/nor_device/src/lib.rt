@@ -14,3 +14,6 @@ pub use nor::{Nor, NorFault, Ready, StepEnd};
 pub use page::{PAGE_SIZE, Page};
 pub use ram::{RamNor, is_flash_size};
 pub use step::{SECTOR_SIZE, Step};
+
+#[cfg(test)]
+mod tests;

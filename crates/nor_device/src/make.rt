@@ -12,13 +12,17 @@ use crate::step::Step;
 pub fn finish<D: Nor>(device: &mut D) -> Result<(), NorFault>
     requires { IsSome (D.running device.old) }
     ensures idle { D.running device.new ≡ None }
-    ensures made { OnOk result (IsMade (D.running device.old) (D.bytes device.old) (D.bytes device.new)) }
+    ensures made { OnOk result
+        (IsMade (D.running device.old) (D.bytes device.old) (D.bytes device.new)) }
     ensures done { OnOk result (D.may_end (D.setting device.old) (D.steps device.old) StepEnd.Done) }
-    ensures torn { OnErr result (IsLeftTorn (D.may_tear (D.setting device.old) (D.steps device.old)) (D.running device.old) (D.bytes device.old) (D.bytes device.new)) }
-    ensures ended { IfErr result (λ why. D.may_end (D.setting device.old) (D.steps device.old) (end_by why)) }
+    ensures torn { OnErr result (IsLeftTorn (D.may_tear (D.setting device.old) (D.steps device.old))
+        (D.running device.old) (D.bytes device.old) (D.bytes device.new)) }
+    ensures ended { IfErr result
+        (λ why. D.may_end (D.setting device.old) (D.steps device.old) (end_by why)) }
     ensures steps { D.steps device.new ≡ D.steps device.old }
     ensures setting { KeepsSetting D.size D.setting device.old device.new }
-    ensures cause { HasCause (D.faults device.old) (D.faults device.new) (D.off device.new) result }
+    ensures cause { HasCause
+        (D.faults device.old) (D.faults device.new) (D.off device.new) result }
 {
     loop {
         if device.poll()? == Ready::Ready {
@@ -36,9 +40,11 @@ pub fn make_step<D: Nor>(device: &mut D, step: &Step) -> Result<(), NorFault>
     ensures idle { D.running device.new ≡ None }
     ensures made { OnOk result (IsAfter step.now (D.bytes device.old) (D.bytes device.new)) }
     ensures torn { OnErr result (IsTornBy step.now (D.bytes device.old) (D.bytes device.new)) }
-    ensures allowed { IfErr result (MayMissStep D.may_end D.may_refuse (D.setting device.old) (D.steps device.old)) }
+    ensures allowed { IfErr result
+        (MayMissStep D.may_end D.may_refuse (D.setting device.old) (D.steps device.old)) }
     ensures setting { KeepsSetting D.size D.setting device.old device.new }
-    ensures cause { HasCause (D.faults device.old) (D.faults device.new) (D.off device.new) result }
+    ensures cause { HasCause
+        (D.faults device.old) (D.faults device.new) (D.off device.new) result }
 {
     device.start(step)?;
     finish(device)

@@ -1,12 +1,13 @@
 //! What a flash device means. A driver starts a step, polls it to its end, and reads while none runs.
-//! Between its start and its end a step has changed nothing that a clause can see; a loss of power in between leaves
-//! a torn flash, and shows as the answer `Off`.
+//! Between its start and its end a step has changed nothing that a clause can see; a loss of power in
+//! between leaves a torn flash, and shows as the answer `Off`.
 
 ghost use Rattle.std.specs.Prelude.{◌≡◌, ℕ, ◌+◌, ◌<◌, ◌≤◌, ◌^◌, Bool, List, length, Option, None, Some, IsSome, IfSome, OnOk, OnErr, IfErr};
 ghost use Rattle.nor_device.specs.declared.step.Step.{Step};
 ghost use Rattle.nor_device.specs.declared.nor.StepEnd.{StepEnd};
+ghost use Rattle.nor_device.specs.declared.nor.NorFault.{NorFault};
 ghost use Rattle.nor_device.specs.Flash.{end_of, IsInOnePage};
-ghost use Rattle.nor_device.specs.Device.{HasCause, KeepsSetting, IsIdleAsBefore, GoesOn, IsMade, IsLeftTorn, one_more, end_by, part_of};
+ghost use Rattle.nor_device.specs.Device.{HasCause, KeepsSetting, KeepsSteps, IsIdleAsBefore, GoesOn, IsMade, IsLeftTorn, one_more, end_by, IsPart};
 
 use crate::step::Step;
 
@@ -74,8 +75,8 @@ pub trait Nor {
     /// Where the step of this number is refused, it may leave the last flash of the first.
     ghost may_tear: { Self.Setting → ℕ → List ℕ → Step → List ℕ → Type 0 };
 
-    /// Behind the step of this number a `read` or `start` may be refused.
-    ghost may_refuse: { Self.Setting → ℕ → Type 0 };
+    /// Behind the step of this number a `read` or `start` may be refused so.
+    ghost may_refuse: { Self.Setting → ℕ → NorFault → Type 0 };
 
     /// Behind the step of this number every `read` and `start` is refused.
     ghost must_refuse: { Self.Setting → ℕ → Type 0 };
@@ -88,12 +89,11 @@ pub trait Nor {
     fn read(&mut self, at: u32, out: &mut [u8]) -> Result<(), NorFault>
         requires idle { running self.old ≡ None }
         requires inside { at + length out.old ≤ size self.old }
-        ensures bytes { OnOk result (IfSome (bytes self.old) (λ flash. out.new ≡ part_of flash at (length out.old))) }
-        ensures allowed { OnErr result (may_refuse (setting self.old) (steps self.old)) }
+        ensures bytes { OnOk result (IsPart (bytes self.old) at (length out.old) out.new) }
+        ensures allowed { IfErr result (may_refuse (setting self.old) (steps self.old)) }
         ensures stopped { OnOk result (¬ must_refuse (setting self.old) (steps self.old)) }
         ensures same { IsIdleAsBefore bytes running self.old self.new }
-        ensures steps { steps self.new ≡ steps self.old }
-        ensures setting { KeepsSetting size setting self.old self.new }
+        ensures setting { KeepsSteps size setting steps self.old self.new }
         ensures cause { HasCause (faults self.old) (faults self.new) (off self.new) result };
 
     /// Begins the step.
@@ -105,7 +105,7 @@ pub trait Nor {
         ensures begun { OnOk result (running self.new ≡ Some step.now) }
         ensures counted { OnOk result (steps self.new ≡ one_more (steps self.old)) }
         ensures refused { OnErr result ((running self.new ≡ None) × (steps self.new ≡ steps self.old)) }
-        ensures allowed { OnErr result (may_refuse (setting self.old) (steps self.old)) }
+        ensures allowed { IfErr result (may_refuse (setting self.old) (steps self.old)) }
         ensures stopped { OnOk result (¬ must_refuse (setting self.old) (steps self.old)) }
         ensures bytes { bytes self.new ≡ bytes self.old }
         ensures setting { KeepsSetting size setting self.old self.new }
@@ -119,12 +119,13 @@ pub trait Nor {
         ensures made { result ≡ Ok Ready.Ready → IsMade (running self.old) (bytes self.old) (bytes self.new) }
         ensures done { result ≡ Ok Ready.Ready → may_end (setting self.old) (steps self.old) StepEnd.Done }
         ensures refused { OnErr result (running self.new ≡ None) }
-        ensures torn { OnErr result (IsLeftTorn (may_tear (setting self.old) (steps self.old)) (running self.old) (bytes self.old) (bytes self.new)) }
+        ensures torn { OnErr result (IsLeftTorn (may_tear (setting self.old) (steps self.old))
+            (running self.old) (bytes self.old) (bytes self.new)) }
         ensures ended { IfErr result (λ why. may_end (setting self.old) (steps self.old) (end_by why)) }
-        ensures steps { steps self.new ≡ steps self.old }
-        ensures setting { KeepsSetting size setting self.old self.new }
+        ensures setting { KeepsSteps size setting steps self.old self.new }
         ensures cause { HasCause (faults self.old) (faults self.new) (off self.new) result };
 
     /// Told bytes are as many as the size says.
-    ghost sized: { (device : Self) (flash : List ℕ) → bytes device ≡ Some flash → length flash ≡ size device };
+    ghost sized: { (device : Self) (flash : List ℕ)
+        → bytes device ≡ Some flash → length flash ≡ size device };
 }

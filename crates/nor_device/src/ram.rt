@@ -86,7 +86,7 @@ impl Nor for RamNor {
 
     ghost may_tear = { λ set n old step new. ⊥ };
 
-    ghost may_refuse = { λ set n. ⊥ };
+    ghost may_refuse = { λ set n why. ⊥ };
 
     ghost must_refuse = { λ set n. ⊥ };
 
@@ -138,7 +138,10 @@ impl Nor for RamNor {
 pub fn is_flash_size(bytes: usize) -> bool
     ensures { IsTrue result ↔ IsFlashSize bytes }
 {
-    matches!(bytes, 1_048_576 | 2_097_152 | 4_194_304 | 8_388_608 | 16_777_216)
+    matches!(
+        bytes,
+        1_048_576 | 2_097_152 | 4_194_304 | 8_388_608 | 16_777_216
+    )
 }
 
 // Makes the step in the bytes.
@@ -158,7 +161,8 @@ fn apply(bytes: &mut [u8], step: &Step)
 // Sets the bytes of the range to 0xFF.
 fn erase(bytes: &mut [u8], start: usize, len: usize)
     requires { start + len ≤ length bytes.old }
-    ensures { bytes.new ≡ take start bytes.old ++ replicate len 255 ++ drop (start + len) bytes.old }
+    ensures { bytes.new ≡ take start bytes.old
+        ++ replicate len 255 ++ drop (start + len) bytes.old }
 {
     bytes[start..start + len].fill(0xFF);
 }
@@ -166,7 +170,9 @@ fn erase(bytes: &mut [u8], start: usize, len: usize)
 // ANDs the data into the bytes.
 fn program(bytes: &mut [u8], start: usize, data: &[u8])
     requires { start + length «data».now ≤ length bytes.old }
-    ensures { bytes.new ≡ take start bytes.old ++ anded (part_of bytes.old start (length «data».now)) «data».now ++ drop (start + length «data».now) bytes.old }
+    ensures { bytes.new ≡ take start bytes.old
+        ++ anded (part_of bytes.old start (length «data».now)) «data».now
+        ++ drop (start + length «data».now) bytes.old }
 {
     and_into(&mut bytes[start..start + data.len()], data);
 }

@@ -1,4 +1,4 @@
-use Rattle.std.proofs.Common.{◌≡◌, ◌≤◌, IsSome}
+use Rattle.std.proofs.Common.{◌≡◌, IsSome}
 use Rattle.nor_device.specs.Device.{KeepsSetting}
 use Rattle.nor_device.proofs.make.finish.Given as goal
 

@@ -1,4 +1,4 @@
-use Rattle.std.proofs.Common.{◌∙◌, ap, subst, sym, ◌≡◌, ◌≤◌, length}
+use Rattle.std.proofs.Common.{◌∙◌, ap, subst, sym, ◌≤◌, length}
 use Rattle.nor_device.specs.Flash.{end_of, applied}
 use Rattle.nor_device.proofs.Erased.{erased}
 use Rattle.nor_device.proofs.ram.apply.Goals as goal

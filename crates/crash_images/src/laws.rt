@@ -1,0 +1,83 @@
+//! What holds of every tear number, of every loss of power, and of the program's own device.
+
+ghost use Rattle.std.specs.Prelude.{◌≡◌, ◌⊎◌, ◌↔◌, ℕ, ◌-◌, ◌<◌, ◌≤◌, List, ◌∷◌, ◌++◌, [], Option, None, Some, length, slice_index};
+ghost use Rattle.nor_device.specs.declared.step.Step.{Step};
+ghost use Rattle.nor_device.specs.declared.nor.StepEnd.{StepEnd};
+ghost use Rattle.nor_device.specs.declared.nor.NorFault.{NorFault};
+ghost use Rattle.nor_device.specs.Flash.{start_of, end_of, applied, after_steps};
+ghost use Rattle.nor_device.specs.Torn.{Torn};
+ghost use Rattle.nor_device.specs.Device.{end_by};
+ghost use Rattle.crash_images.specs.declared.cut.CutSetting.{CutSetting};
+ghost use Rattle.crash_images.specs.Tear.{torn_by, torn_byte_of, data_byte_of, is_erase};
+ghost use Rattle.crash_images.specs.Left.{LeftAfter};
+ghost use Rattle.crash_images.specs.Cut.{EndsBy, IsBad, NotBoth};
+
+use crate::crash::Crash;
+use crate::cut::CutNor;
+use nor_device::{Nor, RamNor};
+
+/// The flash that a tear number names is a torn one; its bytes are the torn bytes in the step's range, and the old ones
+/// outside.
+pub fn laws_of_tear_numbers()
+    ensures torn { (flash : List ℕ) (step : Step) (tear : ℕ)
+        → Torn flash step (torn_by flash step tear) }
+    ensures inside { (flash : List ℕ) (step : Step) (tear i : ℕ)
+        → i < length flash → start_of step ≤ i → i < end_of step
+        → slice_index (torn_by flash step tear) i
+            ≡ torn_byte_of (slice_index flash i) (data_byte_of step (i - start_of step))
+                (is_erase step) tear (i - start_of step) }
+    ensures outside { (flash : List ℕ) (step : Step) (tear i : ℕ)
+        → i < length flash → (i < start_of step) ⊎ (end_of step ≤ i)
+        → slice_index (torn_by flash step tear) i ≡ slice_index flash i }
+{
+}
+
+/// What a loss of power may leave of a list of steps: step by step, and list by list.
+pub fn laws_of_power_loss()
+    ensures none { (flash left : List ℕ) → LeftAfter flash [] left ↔ (left ≡ flash) }
+    ensures first { (flash : List ℕ) (step : Step) (steps : List Step) (left : List ℕ)
+        → LeftAfter flash (step ∷ steps) left
+            ↔ ((left ≡ flash) ⊎ (Torn flash step left ⊎ LeftAfter (applied flash step) steps left)) }
+    ensures front_and_back { (flash : List ℕ) (front back : List Step) (left : List ℕ)
+        → LeftAfter flash (front ++ back) left
+            ↔ (LeftAfter flash front left ⊎ LeftAfter (after_steps flash front) back left) }
+    ensures last { (flash : List ℕ) (steps : List Step)
+        → LeftAfter flash steps (after_steps flash steps) }
+{
+}
+
+/// What a loss of power now may leave of a device: its bytes alone where no step runs, and every flash torn by the step
+/// that runs.
+pub fn power_loss_leaves<D: Crash>(_device: &D)
+    ensures idle { (flash left : List ℕ)
+        → D.running _device.now ≡ None → D.bytes _device.now ≡ Some flash
+        → D.may_leave _device.now left ↔ (left ≡ flash) }
+    ensures running { (step : Step) (flash left : List ℕ)
+        → D.running _device.now ≡ Some step → D.bytes _device.now ≡ Some flash
+        → D.may_leave _device.now left ↔ Torn flash step left }
+{
+}
+
+/// The setting of a `CutNor` over a `RamNor`: each step number has one end up to the chosen one, and none behind it; a
+/// refused poll leaves the flash of the tear number; a read or start is refused behind the chosen step alone, and so as
+/// that step was.
+pub fn setting_of_cut_nor_over_ram_nor()
+    ensures ends { (set : CutSetting (Unit {0})) (n : ℕ) (end : StepEnd)
+        → ⟦<CutNor<RamNor> as Nor>⟧.may_end set n end ↔ EndsBy set.cut set.fail n end }
+    ensures tears { (set : CutSetting (Unit {0})) (n : ℕ) (flash : List ℕ) (step : Step) (left : List ℕ)
+        → ⟦<CutNor<RamNor> as Nor>⟧.may_tear set n flash step left ↔ (left ≡ torn_by flash step set.tear) }
+    ensures refuses { (set : CutSetting (Unit {0})) (n : ℕ) (why : NorFault)
+        → ⟦<CutNor<RamNor> as Nor>⟧.may_refuse set n why ↔ EndsBy set.cut set.fail n (end_by why) }
+    ensures stops { (set : CutSetting (Unit {0})) (n : ℕ)
+        → ⟦<CutNor<RamNor> as Nor>⟧.must_refuse set n ↔ IsBad set.cut set.fail n }
+{
+}
+
+/// Where at most one step is chosen, no step number has two ends, and none behind the chosen one has any.
+pub fn laws_of_chosen_steps()
+    ensures one { (cut fail : Option ℕ) (n : ℕ) (end other : StepEnd)
+        → NotBoth cut fail → EndsBy cut fail n end → EndsBy cut fail n other → end ≡ other }
+    ensures last { (cut fail : Option ℕ) (n behind : ℕ) (end : StepEnd)
+        → NotBoth cut fail → IsBad cut fail n → n < behind → ¬ EndsBy cut fail behind end }
+{
+}

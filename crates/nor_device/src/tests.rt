@@ -1,0 +1,86 @@
+//! What no clause says: that the rows come out at a real size, and each generic call at a concrete device.
+
+ghost use Rattle.std.specs.Prelude.{◌≡◌, ◌+◌, ◌≤◌, ◌^◌, None, IfOk, length};
+ghost use Rattle.nor_device.specs.Flash.{len_of, end_of, IsInOnePage};
+
+use crate::*;
+use std::alloc::{AllocError, Global};
+use std::test::Fail;
+
+const SIZE: usize = 1_048_576;
+
+// As many bytes of one value.
+fn filled(alloc: Global, byte: u8, size: usize) -> Result<Vec<u8>, AllocError>
+    ensures { IfOk result (λ bytes. length bytes.items ≡ size) }
+{
+    Ok(vec![in alloc; byte; size]?)
+}
+
+// The byte at an address.
+fn byte_at<D: Nor>(device: &mut D, at: u32) -> Result<u8, NorFault>
+    requires idle { D.running device.old ≡ None }
+    requires inside { at + 1 ≤ D.size device.old }
+    ensures idle { D.running device.new ≡ None }
+    ensures size { D.size device.new ≡ D.size device.old }
+{
+    let mut byte = [0];
+    device.read(at, &mut byte)?;
+    Ok(byte[0])
+}
+
+// Makes a step, and tells the byte at its first address.
+fn byte_behind<D: Nor>(device: &mut D, step: &Step) -> Result<u8, NorFault>
+    requires idle { D.running device.old ≡ None }
+    requires paged { IsInOnePage step.now }
+    requires small { end_of step.now ≤ 2 ^ 32 }
+    requires inside { end_of step.now ≤ D.size device.old }
+    requires some { 1 ≤ len_of step.now }
+    ensures idle { D.running device.new ≡ None }
+    ensures size { D.size device.new ≡ D.size device.old }
+{
+    make_step(device, step)?;
+    let (first, _) = step.range();
+    byte_at(device, first)
+}
+
+#[test]
+fn a_program_clears_bits_and_an_erase_sets_them(rt: HostRuntime) -> Result<(), Fail> {
+    let mut device = RamNor::of_bytes(filled(rt.alloc(), 0x3C, SIZE)?, 2);
+    let program = Step::Program {
+        at: 0,
+        bytes: Page::of(&[0x0F]).ok_or("one byte is a page")?,
+    };
+    assert_eq!(rt; byte_behind(&mut device, &program), Ok(0x0C), "a program");
+    let erase = Step::Erase { sector: 0 };
+    assert_eq!(rt; byte_behind(&mut device, &erase), Ok(0xFF), "an erase");
+    let bytes = device.into_bytes();
+    assert_eq!(rt; bytes[4095], 0xFF, "the last byte of the sector");
+    assert_eq!(rt; bytes[4096], 0x3C, "the first byte behind it");
+    Ok(())
+}
+
+#[test]
+fn a_step_answers_busy_as_often_as_was_said(rt: HostRuntime) -> Result<(), Fail> {
+    let mut device = RamNor::of_bytes(filled(rt.alloc(), 0, SIZE)?, 2);
+    device.start(&Step::Erase { sector: 1 })?;
+    assert_eq!(rt; device.poll(), Ok(Ready::Busy), "the first poll");
+    assert_eq!(rt; device.poll(), Ok(Ready::Busy), "the second poll");
+    assert_eq!(rt; device.poll(), Ok(Ready::Ready), "the third poll");
+    Ok(())
+}
+
+#[test]
+fn a_page_has_1_to_256_bytes_and_a_flash_a_size_of_the_list(rt: HostRuntime) {
+    let bytes = [7; 257];
+    for (len, page) in [(0, false), (1, true), (256, true), (257, false)] {
+        assert_eq!(rt; Page::of(&bytes[..len]).is_some(), page, "a page of {len}");
+    }
+    for (size, flash) in [
+        (0, false),
+        (1_048_576, true),
+        (3_145_728, false),
+        (16_777_216, true),
+    ] {
+        assert_eq!(rt; is_flash_size(size), flash, "a flash of {size}");
+    }
+}
