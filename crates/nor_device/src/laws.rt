@@ -6,11 +6,7 @@ ghost use Rattle.nor_device.specs.Flash.{applied, after_steps, byte_after};
 ghost use Rattle.nor_device.specs.Torn.{Torn};
 
 /// What a step makes of each byte, and a list of steps of the flash.
-#[tactic(auto, using(
-    crate::specs::FlashLaws::length_applied,
-    crate::specs::FlashLaws::byte_applied,
-    crate::specs::FlashLaws::after_steps_append
-))]
+#[tactic(auto, using(crate::specs::FlashLaws::length_applied, crate::specs::FlashLaws::byte_applied, crate::specs::FlashLaws::after_steps_append))]
 pub fn laws_of_steps()
     ensures length { (flash : List ℕ) (step : Step) → length (applied flash step) ≡ length flash }
     ensures byte { (flash : List ℕ) (step : Step) (i : ℕ) → i < length flash
