@@ -89,7 +89,7 @@ tear_is_torn flash step tear = record {
   byte = λ i inside. record {
     outside = λ out. torn_by_outside flash step tear i inside out;
     inside = λ from to.
-      subst (λ (b : ℕ). IsTornByte step (i - start_of step) (slice_index flash i) b) (sym (torn_by_inside flash step tear i inside from to)) (torn_byte_of_torn step tear (i - start_of step) (slice_index flash i));
+        subst (λ (b : ℕ). IsTornByte step (i - start_of step) (slice_index flash i) b) (sym (torn_by_inside flash step tear i inside from to)) (torn_byte_of_torn step tear (i - start_of step) (slice_index flash i));
   };
 }
 
@@ -105,15 +105,15 @@ torn_masked flash left at tear page torn =
     record {
       same_length = torn.same_length;
       byte = λ i inside.
-        let b = torn.byte i inside in
-        record {
-          outside = λ out. b.outside (subst (λ (n : ℕ). (i < at) ⊎ (at + n ≤ i)) (sym len) out);
-          inside = λ from to.
-            let there : i - at < length page = omega arith in
-            let long : i < at + length (masked tear 0 page) = omega (arith, len) in
-            let d : slice_index (masked tear 0 page) (i - at) ≡ bit_or (slice_index page (i - at)) (mask_at tear (0 + (i - at))) = get_or-masked tear 0 page (i - at) there in
-            torn_program_weaker (slice_index page (i - at)) (mask_at tear (0 + (i - at))) (slice_index flash i) (slice_index left i) (subst (λ (x : ℕ). IsTornProgram x (slice_index flash i) (slice_index left i)) d (b.inside from long));
-        };
+          let b = torn.byte i inside in
+          record {
+            outside = λ out. b.outside (subst (λ (n : ℕ). (i < at) ⊎ (at + n ≤ i)) (sym len) out);
+            inside = λ from to.
+                let there : i - at < length page = omega arith in
+                let long : i < at + length (masked tear 0 page) = omega (arith, len) in
+                let d : slice_index (masked tear 0 page) (i - at) ≡ bit_or (slice_index page (i - at)) (mask_at tear (0 + (i - at))) = get_or-masked tear 0 page (i - at) there in
+                torn_program_weaker (slice_index page (i - at)) (mask_at tear (0 + (i - at))) (slice_index flash i) (slice_index left i) (subst (λ (x : ℕ). IsTornProgram x (slice_index flash i) (slice_index left i)) d (b.inside from long));
+          };
     }
 
 -- a step inside the range of an erase that was cut short leaves it cut short
@@ -122,11 +122,11 @@ pub torn_within : (erase step : Step) → ((k a b : ℕ) → IsTornByte erase k 
 torn_within erase step any from_start to_end first second third one two = record {
   same_length = two.same_length ∙ one.same_length;
   byte = λ i inside.
-    let within : i < length second = omega (arith, inside, one.same_length) in
-    record {
-      outside = λ out. (two.byte i within).outside (further i out) ∙ (one.byte i inside).outside out;
-      inside = λ from to. any (i - start_of erase) (slice_index first i) (slice_index third i);
-    };
+      let within : i < length second = omega (arith, inside, one.same_length) in
+      record {
+        outside = λ out. (two.byte i within).outside (further i out) ∙ (one.byte i inside).outside out;
+        inside = λ from to. any (i - start_of erase) (slice_index first i) (slice_index third i);
+      };
 }
   where
     further : (i : ℕ) → (i < start_of erase) ⊎ (end_of erase ≤ i) → (i < start_of step) ⊎ (end_of step ≤ i)
@@ -137,9 +137,9 @@ torn_within erase step any from_start to_end first second third one two = record
 pub applied_nothing : (flash : List ℕ) (at : ℕ) → applied flash (Program at []) ≡ flash
 applied_nothing flash at =
     ext_get_or 0 (applied flash (Program at [])) flash (length_applied flash (Program at [])) (λ i inside.
-      let there : i < length flash = omega (arith, inside, length_applied flash (Program at [])) in
-      let out : (i < at) ⊎ (at + 0 ≤ i) = elim (cases_lt i at) [ inl low ↦ inl low | inr high ↦ inr (omega arith) ] in
-      byte_applied flash (Program at []) i there ∙ byte_after_outside (Program at []) i (slice_index flash i) out)
+    let there : i < length flash = omega (arith, inside, length_applied flash (Program at [])) in
+    let out : (i < at) ⊎ (at + 0 ≤ i) = elim (cases_lt i at) [ inl low ↦ inl low | inr high ↦ inr (omega arith) ] in
+    byte_applied flash (Program at []) i there ∙ byte_after_outside (Program at []) i (slice_index flash i) out)
 
 -- a byte that two programs side by side change, or leave
 byte_after_both : (at : ℕ) (front back : List ℕ) (i byte : ℕ) → byte_after (Program (at + length front) back) i (byte_after (Program at front) i byte) ≡ byte_after (Program at (front ++ back)) i byte
@@ -180,16 +180,19 @@ byte_after_both at front back i byte =
 pub applied_more : (flash : List ℕ) (at : ℕ) (front back : List ℕ) → applied (applied flash (Program at front)) (Program (at + length front) back) ≡ applied flash (Program at (front ++ back))
 applied_more flash at front back =
     ext_get_or 0 (applied mid second) (applied flash both) (length_applied mid second ∙ length_applied flash first ∙ sym (length_applied flash both)) (λ i inside.
-      let in_mid : i < length mid = omega (arith, inside, length_applied mid second) in
-      let in_flash : i < length flash = omega (arith, in_mid, length_applied flash first) in
-      byte_applied mid second i in_mid ∙ ap (byte_after second i) (byte_applied flash first i in_flash) ∙ byte_after_both at front back i (slice_index flash i) ∙ sym (byte_applied flash both i in_flash))
+    let in_mid : i < length mid = omega (arith, inside, length_applied mid second) in
+    let in_flash : i < length flash = omega (arith, in_mid, length_applied flash first) in
+    byte_applied mid second i in_mid ∙ ap (byte_after second i) (byte_applied flash first i in_flash) ∙ byte_after_both at front back i (slice_index flash i) ∙ sym (byte_applied flash both i in_flash))
   where
     first : Step
     first = Program at front
+
     second : Step
     second = Program (at + length front) back
+
     both : Step
     both = Program at (front ++ back)
+
     mid : List ℕ
     mid = applied flash first
 
@@ -205,22 +208,28 @@ pub applied_erased : (flash : List ℕ) (erase : Step) → ((k b : ℕ) → chan
     → applied (applied flash erase) (Program (start_of erase) bytes) ≡ take (start_of erase) flash ++ bytes ++ drop (end_of erase) flash
 applied_erased flash erase all_ones bytes long inside small =
     ext_get_or 0 (applied mid put) whole (length_applied mid put ∙ length_applied flash erase ∙ sym (length-spliced flash start len bytes same)) (λ i within.
-      let in_mid : i < length mid = omega (arith, within, length_applied mid put) in
-      let in_flash : i < length flash = omega (arith, in_mid, length_applied flash erase) in
-      byte_applied mid put i in_mid ∙ ap (byte_after put i) (byte_applied flash erase i in_flash) ∙ each i in_flash)
+    let in_mid : i < length mid = omega (arith, within, length_applied mid put) in
+    let in_flash : i < length flash = omega (arith, in_mid, length_applied flash erase) in
+    byte_applied mid put i in_mid ∙ ap (byte_after put i) (byte_applied flash erase i in_flash) ∙ each i in_flash)
   where
     start : ℕ
     start = start_of erase
+
     len : ℕ
     len = len_of erase
+
     put : Step
     put = Program (start_of erase) bytes
+
     mid : List ℕ
     mid = applied flash erase
+
     whole : List ℕ
     whole = take (start_of erase) flash ++ bytes ++ drop (end_of erase) flash
+
     same : length bytes ≡ length (take (len_of erase) (drop (start_of erase) flash))
     same = omega (arith, long, inside, length-take (len_of erase) (drop (start_of erase) flash), length-drop (start_of erase) flash)
+
     each : (i : ℕ) → i < length flash → byte_after put i (byte_after erase i (slice_index flash i)) ≡ slice_index whole i
     each i in_flash = elim (cases_lt i (start_of erase)) [
       | inl low ↦

@@ -24,27 +24,25 @@ pub fn laws_of_tear_numbers()
     ensures inside { (flash : List ℕ) (step : Step) (tear i : ℕ)
         → i < length flash → start_of step ≤ i → i < end_of step
         → slice_index (torn_by flash step tear) i
-            ≡ torn_byte_of (slice_index flash i) (data_byte_of step (i - start_of step))
-                (is_erase step) tear (i - start_of step) }
+        ≡ torn_byte_of (slice_index flash i) (data_byte_of step (i - start_of step))
+        (is_erase step) tear (i - start_of step) }
     ensures outside { (flash : List ℕ) (step : Step) (tear i : ℕ)
         → i < length flash → (i < start_of step) ⊎ (end_of step ≤ i)
         → slice_index (torn_by flash step tear) i ≡ slice_index flash i }
-{
-}
+{}
 
 /// What a loss of power may leave of a list of steps: step by step, and list by list.
 pub fn laws_of_power_loss()
     ensures none { (flash left : List ℕ) → LeftAfter flash [] left ↔ (left ≡ flash) }
     ensures first { (flash : List ℕ) (step : Step) (steps : List Step) (left : List ℕ)
         → LeftAfter flash (step ∷ steps) left
-            ↔ ((left ≡ flash) ⊎ (Torn flash step left ⊎ LeftAfter (applied flash step) steps left)) }
+        ↔ ((left ≡ flash) ⊎ (Torn flash step left ⊎ LeftAfter (applied flash step) steps left)) }
     ensures front_and_back { (flash : List ℕ) (front back : List Step) (left : List ℕ)
         → LeftAfter flash (front ++ back) left
-            ↔ (LeftAfter flash front left ⊎ LeftAfter (after_steps flash front) back left) }
+        ↔ (LeftAfter flash front left ⊎ LeftAfter (after_steps flash front) back left) }
     ensures last { (flash : List ℕ) (steps : List Step)
         → LeftAfter flash steps (after_steps flash steps) }
-{
-}
+{}
 
 /// What a loss of power now may leave of a device: its bytes alone where no step runs, and every flash torn by the step
 /// that runs.
@@ -55,8 +53,7 @@ pub fn power_loss_leaves<D: Crash>(_device: &D)
     ensures running { (step : Step) (flash left : List ℕ)
         → D.running _device.now ≡ Some step → D.bytes _device.now ≡ Some flash
         → D.may_leave _device.now left ↔ Torn flash step left }
-{
-}
+{}
 
 /// The setting of a `CutNor` over a `RamNor`: each step number has one end up to the chosen one, and none behind it; a
 /// refused poll leaves the flash of the tear number; a read or start is refused behind the chosen step alone, and so as
@@ -70,8 +67,7 @@ pub fn setting_of_cut_nor_over_ram_nor()
         → ⟦<CutNor<RamNor> as Nor>⟧.may_refuse set n why ↔ EndsBy set.cut set.fail n (end_by why) }
     ensures stops { (set : CutSetting (Unit {0})) (n : ℕ)
         → ⟦<CutNor<RamNor> as Nor>⟧.must_refuse set n ↔ IsBad set.cut set.fail n }
-{
-}
+{}
 
 /// Where at most one step is chosen, no step number has two ends, and none behind the chosen one has any.
 pub fn laws_of_chosen_steps()
@@ -79,5 +75,4 @@ pub fn laws_of_chosen_steps()
         → NotBoth cut fail → EndsBy cut fail n end → EndsBy cut fail n other → end ≡ other }
     ensures last { (cut fail : Option ℕ) (n behind : ℕ) (end : StepEnd)
         → NotBoth cut fail → IsBad cut fail n → n < behind → ¬ EndsBy cut fail behind end }
-{
-}
+{}

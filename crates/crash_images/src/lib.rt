@@ -14,3 +14,6 @@ pub use laws::{
     setting_of_cut_nor_over_ram_nor,
 };
 pub use torn::torn_byte;
+
+#[cfg(test)]
+mod tests;

@@ -92,7 +92,13 @@ fn tear_erase<D: Nor>(inner: &mut D, sector: u32, tear: u64) -> Result<(), NorFa
     ensures cause { HasCause (D.faults inner.old) (D.faults inner.new) (D.off inner.new) result }
 {
     let mut part = [0; 4096];
-    tear_range(inner, &Step::Erase { sector }, sector * SECTOR_SIZE, &mut part, tear)
+    tear_range(
+        inner,
+        &Step::Erase { sector },
+        sector * SECTOR_SIZE,
+        &mut part,
+        tear,
+    )
 }
 
 // Makes what the tear number leaves of an erase of the range from `at` on, with room for its bytes.

@@ -12,7 +12,11 @@ pub fn torn_byte(old: u8, new: u8, erase: bool, tear: u64, i: u32) -> u8
     ensures { result ≡ torn_byte_of old new erase tear i }
 {
     let mask = mask(tear, i as u64);
-    if erase { old | mask } else { old & (new | mask) }
+    if erase {
+        old | mask
+    } else {
+        old & (new | mask)
+    }
 }
 
 // The mask of the i-th byte of the range.

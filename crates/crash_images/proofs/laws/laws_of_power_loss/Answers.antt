@@ -9,10 +9,13 @@ returns-clause-none c = λ flash left. (λ after. left_none flash left after, λ
 
 -- before the first step, within it, or behind it
 pub returns-clause-first : goal.returns-clause-first
-returns-clause-first c = λ flash step steps left. (λ after. left_cases flash step steps left after, λ at. elim at [
-  | inl is ↦ subst (λ (f : List ℕ). LeftAfter flash (step ∷ steps) f) (sym is) (left_begin flash (step ∷ steps))
-  | inr more ↦ elim more [ inl torn ↦ left_torn flash step steps left torn | inr behind ↦ left_more flash step steps left behind ]
-])
+returns-clause-first c = λ flash step steps left. (
+  λ after. left_cases flash step steps left after,
+  λ at. elim at [
+    | inl is ↦ subst (λ (f : List ℕ). LeftAfter flash (step ∷ steps) f) (sym is) (left_begin flash (step ∷ steps))
+    | inr more ↦ elim more [ inl torn ↦ left_torn flash step steps left torn | inr behind ↦ left_more flash step steps left behind ]
+  ],
+)
 
 -- within the front, or behind it
 pub returns-clause-front_and_back : goal.returns-clause-front_and_back

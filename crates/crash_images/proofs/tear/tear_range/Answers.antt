@@ -10,7 +10,7 @@ returns-clause-torn g c =
     let n = g.D.Nor in
     let erase = c.args.erase.now in
     let inside : (flash : List ℕ) → n.bytes c.args.inner.now ≡ Some flash → end_of erase ≤ length flash =
-      λ flash told. subst (λ (k : ℕ). end_of erase ≤ k) (sym (g.met.D.Nor.sized c.args.inner.now flash told)) c.requires.inside in
+    λ flash told. subst (λ (k : ℕ). end_of erase ≤ k) (sym (g.met.D.Nor.sized c.args.inner.now flash told)) c.requires.inside in
     on_ok_weaker c.put_back.result (erase_torn erase c.requires.erases c.args.at c.args.tear (length c.args.part.now) c.read.new.out c.mask_each.new.bytes _ _ _ _ c.requires.range.0 c.requires.range.1 c.in_ok-read.ensures.bytes c.mask_each.ensures c.put_back.ensures.bytes inside c.read.ensures.same.bytes_same c.in_ok-make_step.ensures.made) c.put_back.ensures.put
 
 -- what was put back lies in the erased range
