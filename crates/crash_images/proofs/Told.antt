@@ -1,5 +1,5 @@
 -- What calls on the device inside leave of the bytes that it tells.
-use Rattle.std.proofs.Common.{◌≡◌, ◌⊎◌, ◌<◌, ◌≤◌, ◌+◌, ℕ, List, [], ◌++◌, length, get_or, take, drop, Option, Some, None, Result, Ok, Err, IfErr, OnOk, OnErr, IfSome, Bool, true, ◌-◌, refl, sym, ◌∙◌, ap, subst, inl, inr, arith, take-append-drop, length-drop}
+use Rattle.std.proofs.Common.{◌≡◌, ◌<◌, ◌≤◌, ◌+◌, ℕ, List, [], ◌++◌, length, get_or, take, drop, Option, Some, None, Result, Ok, Err, IfErr, OnOk, OnErr, IfSome, true, ◌-◌, refl, sym, ◌∙◌, ap, subst, inl, inr, arith, take-append-drop, length-drop}
 use Rattle.std.proofs.lemmas.List.{length-take, take-take, drop-take}
 use Rattle.nor_device.specs.declared.step.Step.{Step}
 use Rattle.nor_device.specs.declared.step.Step.TheVariants.{Erase, Program}
@@ -9,10 +9,10 @@ use Rattle.nor_device.specs.declared.nor.Ready.{Ready}
 use Rattle.nor_device.specs.Flash.{start_of, len_of, end_of, applied, changed_byte, IsInOnePage}
 use Rattle.nor_device.specs.Torn.{IsTornByte, Torn}
 use Rattle.nor_device.specs.Device.{IsAfter, IsTornBy, MayMissStep, IsLeftTorn, one_more, end_by, part_of}
-use Rattle.nor_device.specs.TornLaws.{torn_applied, torn_self, torn_untouched}
+use Rattle.nor_device.specs.TornLaws.{torn_applied, torn_untouched}
 use Rattle.crash_images.specs.Tear.{masked, torn_part, torn_by, is_erase}
 use Rattle.crash_images.specs.TearLaws.{tear_is_torn, applied_masked, torn_masked, applied_nothing, applied_more, applied_erased, length_masked}
-use Rattle.crash_images.specs.Outside.{SameOutside, StaysOutside, outside_torn, torn_outside, outside_wider, outside_twice}
+use Rattle.crash_images.specs.Outside.{StaysOutside, outside_torn, torn_outside, outside_wider, outside_twice}
 use Rattle.crash_images.specs.Cut.{MayRefuse, TearLeaves, IsTornByNumber, CutMayEnd}
 use Rattle.crash_images.specs.declared.cut.CutSetting.{CutSetting}
 

@@ -1,5 +1,5 @@
 -- The ends of steps by the choice, and that a device in memory adds none.
-use Rattle.std.specs.Prelude.{◌≡◌, ◌⊎◌, ◌↔◌, ℕ, ◌<◌, List, Option, Some, None, refl}
+use Rattle.std.specs.Prelude.{◌≡◌, ◌↔◌, ℕ, ◌<◌, List, Option, Some, None, refl}
 use Rattle.std.proofs.Common.{inl, inr, arith}
 use Rattle.nor_device.specs.declared.step.Step.{Step}
 use Rattle.nor_device.specs.declared.nor.StepEnd.{StepEnd}
@@ -9,7 +9,7 @@ use Rattle.nor_device.specs.declared.nor.NorFault.TheVariants as faults
 use Rattle.nor_device.specs.Device.{end_by}
 use Rattle.crash_images.specs.declared.cut.CutSetting.{CutSetting}
 use Rattle.crash_images.specs.Tear.{torn_by}
-use Rattle.crash_images.specs.Cut.{IsAhead, NotBoth, IsBad, EndsBy, MayRefuse, TearLeaves, CutMayEnd, CutMayTear, CutMayRefuse}
+use Rattle.crash_images.specs.Cut.{IsAhead, NotBoth, IsBad, EndsBy, MayRefuse, CutMayEnd, CutMayTear, CutMayRefuse}
 
 -- no step is refused so that it is done
 never_done : (why : NorFault) → end_by why ≡ ends.Done → ⊥

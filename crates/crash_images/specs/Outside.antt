@@ -1,10 +1,9 @@
 -- What stays of a flash in which only one range may have changed.
-use Rattle.std.specs.Prelude.{◌≡◌, ◌⊎◌, ℕ, ◌<◌, ◌≤◌, List, length, slice_index, Option, Some, None, IfSome}
-use Rattle.std.proofs.Common.{◌∙◌, inl, inr, arith, refl}
+use Rattle.std.specs.Prelude.{◌≡◌, ◌⊎◌, ℕ, ◌<◌, ◌≤◌, List, length, slice_index, Option, Some, IfSome}
+use Rattle.std.proofs.Common.{◌∙◌, inl, inr, arith}
 use Rattle.nor_device.specs.declared.step.Step.{Step}
 use Rattle.nor_device.specs.Flash.{start_of, end_of}
 use Rattle.nor_device.specs.Torn.{IsTornByte, Torn}
-use Rattle.nor_device.specs.Device.{IsTornBy}
 
 -- the same length, and the same bytes outside the range
 pub record SameOutside (start end : ℕ) (old new : List ℕ) : Type 0 where

@@ -1,5 +1,5 @@
 -- What holds of the flash that a tear number names.
-use Rattle.std.specs.Prelude.{◌≡◌, ◌⊎◌, ℕ, ◌+◌, ◌-◌, ◌<◌, ◌≤◌, ◌^◌, ◌%◌, true, false, List, [], ◌∷◌, ◌++◌, length, take, drop, slice_index, bit_and, bit_or, refl, Option, Some, None, IfSome}
+use Rattle.std.specs.Prelude.{◌≡◌, ◌⊎◌, ℕ, ◌+◌, ◌-◌, ◌<◌, ◌≤◌, ◌%◌, List, [], ◌∷◌, ◌++◌, length, take, drop, slice_index, bit_and, bit_or, refl}
 use Rattle.std.proofs.Common.{zero, suc, get_or, sym, ◌∙◌, ap, subst, inl, inr, arith, add-zero, zero-add, length-drop, length-append}
 use Rattle.std.proofs.lemmas.List.{ext_get_or, length-take, get_or_append_left, get_or-append_right}
 use Rattle.std.proofs.lemmas.Bool.{cases_lt}
@@ -7,11 +7,10 @@ use Rattle.std.proofs.lemmas.Nat.{and_assoc, and_comm, and_or_self, or_comm, and
 use Rattle.nor_device.specs.declared.step.Step.{Step}
 use Rattle.nor_device.specs.declared.step.Step.TheVariants.{Erase, Program}
 use Rattle.nor_device.specs.Flash.{start_of, len_of, end_of, anded, applied, changed_byte, byte_after}
-use Rattle.nor_device.specs.Torn.{IsTornProgram, IsTornByte, TornAt, Torn}
-use Rattle.nor_device.specs.Device.{IsTornBy, IsAfter}
+use Rattle.nor_device.specs.Torn.{IsTornProgram, IsTornByte, Torn}
 use Rattle.nor_device.specs.Splice.{length-spliced, spliced_below, spliced_within, spliced_above, part_byte}
 use Rattle.nor_device.specs.FlashLaws.{length-anded, get_or-anded, length_applied, byte_applied, byte_after_outside, byte_after_inside}
-use Rattle.nor_device.specs.TornLaws.{torn_applied, torn_program_made, torn_self}
+use Rattle.nor_device.specs.TornLaws.{torn_program_made}
 use Rattle.crash_images.specs.Tear.{mask_at, masked, torn_byte_of, torn_part, torn_by, is_erase, data_byte_of}
 
 -- setting bits keeps the length

@@ -1,4 +1,4 @@
-use Rattle.std.proofs.Common.{◌≡◌, ℕ, sym, subst, OnErr, IfErr}
+use Rattle.std.proofs.Common.{sym, subst, OnErr, IfErr}
 use Rattle.nor_device.specs.Device.{IsLeftTorn, end_by}
 use Rattle.crash_images.specs.Cut.{CutDevice, CutMayTear, CutMayEnd, running_by}
 use Rattle.crash_images.specs.declared.cut.Health.{Health}
