@@ -1,0 +1,4 @@
+pub mod Polynomial
+pub mod Crc
+pub mod Entry
+pub mod Choice

@@ -1,0 +1,52 @@
+//! The CRC-32 of a sequence: the reflected polynomial 0xEDB88320, a register that starts at 0, and
+//! the result inverted.
+
+ghost use Rattle.std.specs.Prelude.{◌≡◌, ◌≤◌, ◌+◌, Bool, List, length};
+ghost use Rattle.otadata.specs.Polynomial.{IsMonic, IsRemainder, remainder};
+ghost use Rattle.otadata.specs.Crc.{crc, divided, generator, read_back, shifted};
+
+/// The polynomial, its highest coefficient but one as bit 0.
+const POLYNOMIAL: u32 = 0xEDB8_8320;
+
+/// What the register holds before the first bit.
+const START: u32 = 0;
+
+/// The CRC of an entry's sequence (ESP-IDF Programming Guide, over the air updates).
+pub fn crc_of(seq: u32) -> u32
+    ensures { result ≡ crc seq }
+{
+    let mut register = START ^ seq;
+    for _ in 0..u32::BITS {
+        register = shifted(register);
+    }
+    !register
+}
+
+/// The register one bit later.
+pub(crate) fn shifted(register: u32) -> u32
+    ensures { result ≡ shifted register }
+{
+    if register & 1 == 0 {
+        register >> 1
+    } else {
+        (register >> 1) ^ POLYNOMIAL
+    }
+}
+
+/// The division of polynomials over two values has one remainder, and the CRC is read from it.
+pub fn division_leaves_one_remainder()
+    ensures exists { (p d : List Bool) → IsMonic d → length d ≤ length p + 1
+        → IsRemainder p d (remainder p d) }
+    ensures unique { (p d r : List Bool) → IsMonic d → IsRemainder p d r → r ≡ remainder p d }
+    ensures crc { (seq : _) (r : List Bool) → IsRemainder (divided seq) generator r
+        → crc seq ≡ read_back r }
+{}
+
+/// The CRC of sequences for which it is published, or was computed by another program.
+pub fn crc_of_known_sequences()
+    ensures zero { crc 0 ≡ 0xFFFF_FFFF }
+    ensures one { crc 1 ≡ 0x4743_989A }
+    ensures two { crc 2 ≡ 0x55F6_3774 }
+    ensures three { crc 3 ≡ 0xED4A_5011 }
+    ensures last { crc 0xFFFF_FFFE ≡ 0x99F8_B879 }
+{}
