@@ -1,0 +1,4 @@
+-- What contracts say of the two ends of the program: where files come from, and where text goes.
+pub mod Fault
+pub mod Store
+pub mod Sink
