@@ -10,7 +10,7 @@ use Rattle.std.proofs.lemmas.List.{map-append}
 use Rattle.std.proofs.lemmas.List.Quantifiers.{position-Some}
 use Rattle.std.specs.String.{string_bytes}
 use Rattle.pipe_ends.specs.declared.file.File.{File}
-use Rattle.pipe_ends.specs.MemStore.{entry_of, files_of, has_name}
+use Rattle.pipe_ends.specs.MemStore.{Shelf, entry_of, files_of, has_name}
 
 -- two names tie in the order of bytes where they are equal
 abbrev same : List ℕ → List ℕ → Bool
@@ -94,3 +94,7 @@ pub files_of_push : (fs : List File) (g : File) → position (has_name (string_b
 files_of_push fs g none =
     ap from_entries (map-append entry_of fs (g ∷ []))
     ∙ from_entries_push order_total order_strict (map entry_of fs) (string_bytes g.name) g.bytes.items (find_none (string_bytes g.name) fs (grind (arith, none)))
+
+-- two stores with the same files and the same calls are one
+pub same_shelf : (a b : Shelf) → a.files ≡ b.files → a.calls ≡ b.calls → a ≡ b
+same_shelf a b files calls = λ i. record { files = files i; calls = calls i }

@@ -3,10 +3,10 @@ use Rattle.std.specs.Prelude.{◌≡◌, ◌≢◌, ℕ, List, [], ◌∷◌, ma
 use Rattle.std.specs.Ordering.{nat_cmp}
 use Rattle.std.specs.Cmp.Lexicographic.{slice_cmp, pointwise}
 use Rattle.std.specs.Coded.{Coded, code_by, coded×, coded_ℕ, coded_list}
-use Rattle.std.specs.FinMap.{get, from_entries, code}
+use Rattle.std.specs.FinMap.{insert, from_entries, code}
 use Rattle.std.specs.String.{string_bytes}
 use Rattle.pipe_ends.specs.declared.file.File.{File}
-use Rattle.pipe_ends.specs.Calls.{Counts, counts_code}
+use Rattle.pipe_ends.specs.Calls.{Counts, counts_code, after_call}
 use Rattle.pipe_ends.specs.Store.{Files}
 
 -- what a store in memory has: its files, and its calls
@@ -23,6 +23,14 @@ shelf_code =
 -- the name and the bytes of a file
 abbrev pub entry_of : File → List ℕ × List ℕ
 entry_of file = (string_bytes file.name, file.bytes.items)
+
+-- one more call came, and the files stayed
+abbrev pub counted : Shelf → Shelf
+counted shelf = record { files = shelf.files; calls = after_call shelf.calls }
+
+-- one more call came, and gave a file these bytes
+abbrev pub stored : Shelf → List ℕ → List ℕ → Shelf
+stored shelf name bytes = record { files = insert shelf.files name bytes; calls = after_call shelf.calls }
 
 -- whether a file has this name
 abbrev pub has_name : List ℕ → File → Bool

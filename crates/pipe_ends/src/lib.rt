@@ -6,7 +6,7 @@ mod digits;
 mod edge;
 mod fault;
 mod file;
-
+mod mem_sink;
 mod mem_store;
 mod sink;
 mod store;
@@ -15,7 +15,7 @@ pub use digits::{put_hex, put_number};
 pub use edge::{DirStore, StdSink};
 pub use fault::{GetFault, Memory, PushFault, PutFault};
 pub use file::File;
-
+pub use mem_sink::MemSink;
 pub use mem_store::MemStore;
 pub use sink::Sink;
 pub use store::Store;

@@ -1,10 +1,6 @@
 //! A store in memory, some of whose calls fail.
-ghost use Rattle.std.specs.Prelude.{◌≡◌, ℕ, ◌≤◌, ◌↔◌, Option, OnOk, OnErr, IfOk, IsErrOf, IsTrue, position};
-ghost use Rattle.std.specs.FinMap as map;
-ghost use Rattle.pipe_ends.specs.Calls.{fails_next, after_call};
-ghost use Rattle.pipe_ends.specs.Fault.{Rose};
-ghost use Rattle.pipe_ends.specs.MemStore.{Shelf, AreDistinct, files_of, has_name};
-ghost use Rattle.pipe_ends.specs.Store.{TellsFile, TellsNoFile, TellsPut};
+ghost use Rattle.std.specs.Prelude.{◌≡◌, position};
+ghost use Rattle.pipe_ends.specs.MemStore.{AreDistinct, files_of, has_name};
 
 use crate::calls::Calls;
 use crate::fault::{GetFault, PutFault};
@@ -54,13 +50,22 @@ fn place_of(files: &[File], name: &str) -> Option<usize>
 }
 
 impl Store for MemStore {
-    ghost use Rattle.std.specs.Prelude.{Some};
+    ghost use Rattle.std.specs.Prelude.{◌≡◌, ◌≤◌, ◌↔◌, OnOk, OnErr, IfOk, IsErrOf, IsTrue, Some, None};
+    ghost use Rattle.std.specs.FinMap as map;
+    ghost use Rattle.pipe_ends.specs.Calls.{fails_next};
+    ghost use Rattle.pipe_ends.specs.MemStore.{counted, stored};
 
     ghost files = { λ store. Some store.files };
 
     ghost faults = { λ store. store.calls.faults };
 
-    fn get(&mut self, alloc: Global, name: &str) -> Result<Vec<u8>, GetFault> {
+    fn get(&mut self, alloc: Global, name: &str) -> Result<Vec<u8>, GetFault>
+        ensures bytes { IfOk result (λ bytes. map.get self.old.files name.now ≡ Some bytes.items) }
+        ensures absent { IsErrOf result GetFault.Absent → map.get self.old.files name.now ≡ None }
+        ensures failed { IsErrOf result GetFault.Failed ↔ IsTrue (fails_next self.old.calls) }
+        ensures counted { self.new ≡ counted self.old }
+        ensures later { self.old.calls.faults ≤ self.new.calls.faults }
+    {
         if self.calls.next_fails() {
             return Err(GetFault::Failed);
         }
@@ -70,7 +75,12 @@ impl Store for MemStore {
         Ok(Vec::from_slice(alloc, &self.files[place].bytes)?)
     }
 
-    fn put(&mut self, alloc: Global, name: &str, bytes: &[u8]) -> Result<(), PutFault> {
+    fn put(&mut self, alloc: Global, name: &str, bytes: &[u8]) -> Result<(), PutFault>
+        ensures put { OnOk result (self.new ≡ stored self.old name.now bytes.now) }
+        ensures same { OnErr result (self.new ≡ counted self.old) }
+        ensures failed { IsErrOf result PutFault.Failed ↔ IsTrue (fails_next self.old.calls) }
+        ensures later { self.old.calls.faults ≤ self.new.calls.faults }
+    {
         if self.calls.next_fails() {
             return Err(PutFault::Failed);
         }
