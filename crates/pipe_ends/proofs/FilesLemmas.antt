@@ -1,16 +1,16 @@
 -- A list of files against the map that it is told as.
-use Rattle.std.proofs.Common.{◌≡◌, ℕ, ◌<◌, ◌≤◌, ◌-◌, Bool, true, false, cond, List, [], ◌∷◌, ◌++◌, map, length, get_or, set, zero, suc, true≢false, Some, None, Option, arith, refl, sym, ap, ◌∙◌, subst}
+use Rattle.std.proofs.Common.{◌≡◌, ◌≢◌, ℕ, ◌<◌, ◌≤◌, ◌-◌, Bool, true, false, cond, List, [], ◌∷◌, ◌++◌, map, length, get_or, set, zero, suc, true≢false, Some, None, Option, arith, refl, sym, ap, ◌∙◌, subst}
 use Rattle.std.proofs.lemmas.Grind.{common_steps}
 use Rattle.std.specs.Ordering.{nat_cmp, eq_by_cmp}
 use Rattle.std.specs.Cmp.{IsTotalOrder, eq_by_cmp_equiv}
 use Rattle.std.specs.Cmp.Lexicographic.{slice_cmp, pointwise, texts_ties, bytes_decides, nat_list_cmp_total}
 use Rattle.std.specs.FinMap.{IsAntisymmetric, get, insert, find, from_entries, get-from_entries, get-insert, same_map, from_entries_push, nat_cmp-IsAntisymmetric, slice_cmp-IsAntisymmetric}
-use Rattle.std.specs.List.{position, position_or_len}
+use Rattle.std.specs.List.{position, position_or_len, Any}
 use Rattle.std.proofs.lemmas.List.{map-append}
 use Rattle.std.proofs.lemmas.List.Quantifiers.{position-Some}
 use Rattle.std.specs.String.{string_bytes}
 use Rattle.pipe_ends.specs.declared.file.File.{File}
-use Rattle.pipe_ends.specs.MemStore.{Shelf, entry_of, files_of, has_name}
+use Rattle.pipe_ends.specs.MemStore.{Shelf, entry_of, files_of, has_name, HasNoneNamed, AreDistinct, TellsJust}
 
 -- two names tie in the order of bytes where they are equal
 abbrev same : List ℕ → List ℕ → Bool
@@ -33,6 +33,10 @@ find_none name (f ∷ fs) h = grind (arith, common_steps, ties name f, find_none
 find_some : (name : List ℕ) (fs : List File) (i : ℕ) (d : File) → i ≡ position_or_len (has_name name) fs → i < length fs → find (slice_cmp nat_cmp) name (map entry_of fs) ≡ Some (get_or fs i d).bytes.items
 find_some name [] i d e h = absurd (omega arith)
 find_some name (f ∷ fs) i d e h = grind (arith, common_steps, ties name f, find_some name fs (i - 1) d)
+
+-- a name ties with itself
+same_itself : (a : List ℕ) → same a a ≡ true
+same_itself a = (eq_by_cmp_equiv nat_list_cmp_total).refl a
 
 -- names that tie in the order of bytes are equal
 equal : (a b : List ℕ) → same a b ≡ true → a ≡ b
@@ -98,3 +102,39 @@ files_of_push fs g none =
 -- two stores with the same files and the same calls are one
 pub same_shelf : (a b : Shelf) → a.files ≡ b.files → a.calls ≡ b.calls → a ≡ b
 same_shelf a b files calls = λ i. record { files = files i; calls = calls i }
+
+-- a name that none of the files has is not that of the file at a place
+none_named : (name : List ℕ) (fs : List File) (k : ℕ) (d : File) → HasNoneNamed name fs → k < length fs → string_bytes (get_or fs k d).name ≢ name
+none_named name [] k d none within = absurd (omega arith)
+none_named name (f ∷ fs) zero d none within = none.0
+none_named name (f ∷ fs) (suc k) d none within = none_named name fs k d none.1 (omega arith)
+
+-- a test that is not true is false
+not_true : (b : Bool) → (b ≡ true → ⊥) → b ≡ false
+not_true true never = absurd (never refl)
+not_true false never = refl
+
+-- where no two names are the same, each file is found by its name
+find_each : (fs : List File) (k : ℕ) (d : File) → AreDistinct fs → k < length fs → find (slice_cmp nat_cmp) (string_bytes (get_or fs k d).name) (map entry_of fs) ≡ Some (get_or fs k d).bytes.items
+find_each [] k d distinct within = absurd (omega arith)
+find_each (f ∷ fs) zero d distinct within = rw (same_itself (string_bytes f.name)) refl
+find_each (f ∷ fs) (suc k) d distinct within =
+    let other : string_bytes (get_or fs k d).name ≢ string_bytes f.name = none_named (string_bytes f.name) fs k d distinct.0 (omega arith) in
+    let differs : same (string_bytes (get_or fs k d).name) (string_bytes f.name) ≡ false = not_true _ (λ e. other (equal _ _ e)) in
+    rw differs (find_each fs k d distinct.1 (omega arith))
+
+-- a name that is found is that of one of the files
+find_only : (name : List ℕ) (fs : List File) → find (slice_cmp nat_cmp) name (map entry_of fs) ≢ None → Any (λ file. string_bytes file.name ≡ name) fs
+find_only name [] some = absurd (some refl)
+find_only name (f ∷ fs) some =
+    elim (same name (string_bytes f.name)) as (λ b. same name (string_bytes f.name) ≡ b → Any (λ file. string_bytes file.name ≡ name) (f ∷ fs)) [
+      | true ↦ λ is. (0, f, omega arith, refl, sym (equal name (string_bytes f.name) is))
+      | false ↦ λ is. let (k, x, within, at, named) = find_only name fs (λ none. some (rw is none)) in (suc k, x, omega arith, at, named)
+    ] refl
+
+-- files whose names differ are told just as their list gives them
+pub tells_just : (fs : List File) → AreDistinct fs → TellsJust (files_of fs) fs
+tells_just fs distinct = record {
+  each = λ k d within. get-from_entries order_total (map entry_of fs) _ ∙ find_each fs k d distinct within;
+  only = λ name some. find_only name fs (λ none. some (get-from_entries order_total (map entry_of fs) name ∙ none));
+}

@@ -1,9 +1,9 @@
 -- A store in memory: files in a list, and which calls fail.
-use Rattle.std.specs.Prelude.{◌≡◌, ◌≢◌, ℕ, List, [], ◌∷◌, map, refl, Bool, nat_eq}
+use Rattle.std.specs.Prelude.{◌≡◌, ◌≢◌, ℕ, List, [], ◌∷◌, map, refl, Bool, nat_eq, All, Any, Some, None}
 use Rattle.std.specs.Ordering.{nat_cmp}
 use Rattle.std.specs.Cmp.Lexicographic.{slice_cmp, pointwise}
 use Rattle.std.specs.Coded.{Coded, code_by, coded×, coded_ℕ, coded_list}
-use Rattle.std.specs.FinMap.{insert, from_entries, code}
+use Rattle.std.specs.FinMap.{get, insert, from_entries, code}
 use Rattle.std.specs.String.{string_bytes}
 use Rattle.pipe_ends.specs.declared.file.File.{File}
 use Rattle.pipe_ends.specs.Calls.{Counts, counts_code, after_call}
@@ -49,3 +49,8 @@ HasNoneNamed name (file ∷ files) = (string_bytes file.name ≢ name) × HasNon
 abbrev pub AreDistinct : List File → Type 0
 AreDistinct [] = Unit {0}
 AreDistinct (file ∷ files) = HasNoneNamed (string_bytes file.name) files × AreDistinct files
+
+-- files that are told just as a list gives them: each of the list by its name, and none besides
+pub record TellsJust (told : Files) (files : List File) : Type 0 where
+  pub each : All (λ file. get told (string_bytes file.name) ≡ Some file.bytes.items) files
+  pub only : (name : List ℕ) → get told name ≢ None → Any (λ file. string_bytes file.name ≡ name) files

@@ -1,6 +1,7 @@
 //! Numbers as text.
 ghost use Rattle.std.specs.Prelude.{◌≡◌, ℕ, ◌+◌, ◌^◌, ◌<◌, ◌≤◌, ◌++◌, OnOk, OnErr};
 ghost use Rattle.std.specs.Fmt.{decimal};
+ghost use Rattle.std.specs.Str.Parse.{digits_value};
 ghost use Rattle.pipe_ends.specs.Hex.{hex_glyph, hex_text};
 
 use crate::fault::Memory;
@@ -28,6 +29,13 @@ pub fn put_hex(out: &mut Vec<u8>, n: u64, digits: u8) -> Result<(), Memory>
         out.push_reserved(hex_digit(n >> (4 * place) & 0xF));
     }
     Ok(())
+}
+
+/// Over every number: as many hex digits as it needs spell it, and no other number.
+#[tactic(auto, using(crate::proofs::HexLemmas::hex_text_spells))]
+pub fn hex_digits_spell_their_number()
+    ensures { (digits number : ℕ) → number < 16 ^ digits → digits_value 16 (hex_text digits number) ≡ number }
+{
 }
 
 fn hex_digit(digit: u64) -> u8

@@ -1,5 +1,5 @@
 //! The trusted edge: files under the current folder and standard output, of which no contract can tell.
-ghost use Rattle.std.specs.Prelude.{None};
+ghost use Rattle.std.specs.Prelude.{◌≡◌, None};
 
 use crate::fault::{GetFault, PushFault, PutFault};
 use crate::sink::Sink;
@@ -19,7 +19,9 @@ pub struct DirStore<'a, R: Files + AllocGlobal> {
 
 impl<'a, R: Files + AllocGlobal> DirStore<'a, R> {
     /// A store over this runtime's files, with no fault yet.
-    pub fn new(rt: &'a R) -> DirStore<'a, R> {
+    pub fn new(rt: &'a R) -> DirStore<'a, R>
+        ensures { ⟦<DirStore<'a, R> as Store>⟧.faults result ≡ 0 }
+    {
         DirStore { rt, faults: 0 }
     }
 }
@@ -75,7 +77,9 @@ pub struct StdSink<'a, R: Print> {
 
 impl<'a, R: Print> StdSink<'a, R> {
     /// A sink over this runtime's standard output, with no fault yet.
-    pub fn new(rt: &'a R) -> StdSink<'a, R> {
+    pub fn new(rt: &'a R) -> StdSink<'a, R>
+        ensures { ⟦<StdSink<'a, R> as Sink>⟧.faults result ≡ 0 }
+    {
         StdSink { rt, faults: 0 }
     }
 }

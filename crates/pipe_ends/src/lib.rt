@@ -11,7 +11,7 @@ mod mem_store;
 mod sink;
 mod store;
 
-pub use digits::{put_hex, put_number};
+pub use digits::{hex_digits_spell_their_number, put_hex, put_number};
 pub use edge::{DirStore, StdSink};
 pub use fault::{GetFault, Memory, PushFault, PutFault};
 pub use file::File;

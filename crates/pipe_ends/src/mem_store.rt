@@ -1,6 +1,6 @@
 //! A store in memory, some of whose calls fail.
 ghost use Rattle.std.specs.Prelude.{◌≡◌, position};
-ghost use Rattle.pipe_ends.specs.MemStore.{AreDistinct, files_of, has_name};
+ghost use Rattle.pipe_ends.specs.MemStore.{AreDistinct, TellsJust, files_of, has_name};
 
 use crate::calls::Calls;
 use crate::fault::{GetFault, PutFault};
@@ -30,9 +30,11 @@ impl Model for MemStore {
 
 impl MemStore {
     /// A store of these files, whose names differ. It takes no memory.
+    #[tactic(auto, using(crate::proofs::FilesLemmas::tells_just))]
     pub fn new(files: Vec<File>, failing: Vec<u64>) -> MemStore
         requires { AreDistinct files.items }
         ensures files { result.files ≡ files_of files.items }
+        ensures given { TellsJust result.files files.items }
         ensures calls { result.calls ≡ record { failing = failing.items; made = 0; faults = 0 } }
     {
         MemStore {
