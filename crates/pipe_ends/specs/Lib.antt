@@ -2,3 +2,7 @@
 pub mod Fault
 pub mod Store
 pub mod Sink
+pub mod Calls
+pub mod MemStore
+pub mod MemSink
+pub mod Hex
