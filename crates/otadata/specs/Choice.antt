@@ -18,11 +18,11 @@ pub record IsValid (e : Entry) : Type 0 where
   pub not_given_up : e.state ≢ ABORTED
 
 -- whether the entry matches
-abbrev pub matches : Entry → Bool
+unfoldable pub matches : Entry → Bool
 matches e = (e.crc == crc e.seq) && not (e.seq == 0) && not (e.seq == BLANK)
 
 -- whether the entry is valid
-abbrev pub is_valid : Entry → Bool
+unfoldable pub is_valid : Entry → Bool
 is_valid e = matches e && not (e.state == INVALID) && not (e.state == ABORTED)
 
 -- neither entry is valid
@@ -41,7 +41,7 @@ pub record IsSecond (first second : Entry) : Type 0 where
   pub exceeds : IsValid first → first.seq < second.seq
 
 -- the number of the active entry: the valid one with the greater sequence, the first on a tie
-abbrev pub active_of : Entry → Entry → Option ℕ
+unfoldable pub active_of : Entry → Entry → Option ℕ
 active_of first second =
     if is_valid second && (not (is_valid first) || nat_lt first.seq second.seq) then Some 1
     else (if is_valid first then Some 0 else None)

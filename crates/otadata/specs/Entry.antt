@@ -4,7 +4,7 @@ use Rattle.byteorder.specs.Endian.{little_number, little_bytes}
 use Rattle.otadata.specs.declared.entry.Entry.{Entry}
 
 -- the entry that the first 32 bytes are: sequence, label, state and CRC
-abbrev pub entry_of : List ℕ → Entry
+unfoldable pub entry_of : List ℕ → Entry
 entry_of bytes = record {
   seq = little_number 4 bytes;
   label = take 20 (drop 4 bytes);
@@ -13,7 +13,7 @@ entry_of bytes = record {
 }
 
 -- the 32 bytes of an entry
-abbrev pub entry_bytes : Entry → List ℕ
+unfoldable pub entry_bytes : Entry → List ℕ
 entry_bytes e = little_bytes 4 e.seq ++ e.label ++ little_bytes 4 e.state ++ little_bytes 4 e.crc
 
 -- each field has the size that it has in the bytes

@@ -10,7 +10,7 @@ xor true b = not b
 -- the sum of two polynomials of as many coefficients, coefficient by coefficient
 abbrev pub plus : List Bool → List Bool → List Bool
 plus [] q = []
-plus (a ∷ p) [] = a ∷ p
+plus (a ∷ p) [] = []
 plus (a ∷ p) (b ∷ q) = xor a b ∷ plus p q
 
 -- a coefficient times a polynomial

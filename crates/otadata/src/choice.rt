@@ -9,6 +9,7 @@ use crate::entry::Entry;
 
 /// The number of the active entry: the valid one with the greater sequence, the first on a tie, and
 /// none where neither is valid.
+#[tactic(auto, unfolding(crate::specs::Choice::active_of))]
 pub fn active(first: &Entry, second: &Entry) -> Option<u8>
     ensures none { (result ≡ None) ↔ AreBothInvalid first.now second.now }
     ensures first { (result ≡ Some 0) ↔ IsFirst first.now second.now }
@@ -37,6 +38,7 @@ pub fn slot_of(seq: u32, slots: u8) -> u8
 }
 
 /// What the words that compute say of entries, in facts.
+#[tactic(auto, unfolding(crate::specs::Choice::matches, crate::specs::Choice::is_valid))]
 pub fn choices_are_decided()
     ensures matches { (e : Entry) → IsTrue (matches e) ↔ Matches e }
     ensures valid { (e : Entry) → IsTrue (is_valid e) ↔ IsValid e }

@@ -1,7 +1,7 @@
 //! The CRC-32 of a sequence: the reflected polynomial 0xEDB88320, a register that starts at 0, and
 //! the result inverted.
 
-ghost use Rattle.std.specs.Prelude.{◌≡◌, ◌≤◌, ◌+◌, Bool, List, length};
+ghost use Rattle.std.specs.Prelude.{◌≡◌, ◌<◌, ◌≤◌, ◌+◌, ◌^◌, Bool, List, length, ℕ};
 ghost use Rattle.otadata.specs.Polynomial.{IsMonic, IsRemainder, remainder};
 ghost use Rattle.otadata.specs.Crc.{crc, divided, generator, read_back, shifted};
 
@@ -23,7 +23,7 @@ pub fn crc_of(seq: u32) -> u32
 }
 
 /// The register one bit later.
-pub(crate) fn shifted(register: u32) -> u32
+fn shifted(register: u32) -> u32
     ensures { result ≡ shifted register }
 {
     if register & 1 == 0 {
@@ -33,16 +33,21 @@ pub(crate) fn shifted(register: u32) -> u32
     }
 }
 
-/// The division of polynomials over two values has one remainder, and the CRC is read from it.
+/// Polynomials over two values are divided with one remainder.
 pub fn division_leaves_one_remainder()
     ensures exists { (p d : List Bool) → IsMonic d → length d ≤ length p + 1
         → IsRemainder p d (remainder p d) }
     ensures unique { (p d r : List Bool) → IsMonic d → IsRemainder p d r → r ≡ remainder p d }
-    ensures crc { (seq : _) (r : List Bool) → IsRemainder (divided seq) generator r
-        → crc seq ≡ read_back r }
 {}
 
-/// The CRC of sequences for which it is published, or was computed by another program.
+/// The CRC is read from the remainder, whichever way that was found, and has 32 bits.
+pub fn crc_is_read_from_the_remainder()
+    ensures crc { (seq : ℕ) (r : List Bool) → IsRemainder (divided seq) generator r
+        → crc seq ≡ read_back r }
+    ensures fits { (seq : ℕ) → crc seq < 2 ^ 32 }
+{}
+
+/// The definition computes what other programs compute.
 pub fn crc_of_known_sequences()
     ensures zero { crc 0 ≡ 0xFFFF_FFFF }
     ensures one { crc 1 ≡ 0x4743_989A }

@@ -33,8 +33,8 @@ impl Entry {
         Entry {
             seq: LittleEndian::read_u32(bytes),
             label,
-            state: LittleEndian::read_u32(&bytes[24..]),
-            crc: LittleEndian::read_u32(&bytes[28..]),
+            state: LittleEndian::read_u32(&bytes[24..28]),
+            crc: LittleEndian::read_u32(&bytes[28..32]),
         }
     }
 
@@ -43,13 +43,21 @@ impl Entry {
         ensures bytes { out.new ≡ entry_bytes self.now }
         ensures entry { entry_of out.new ≡ self.now }
     {
-        LittleEndian::write_u32(out, self.seq);
-        out[4..24].copy_from_slice(&self.label);
-        LittleEndian::write_u32(&mut out[24..], self.state);
-        LittleEndian::write_u32(&mut out[28..], self.crc);
+        let Entry {
+            seq,
+            label,
+            state,
+            crc,
+        } = *self;
+        LittleEndian::write_u32(out, seq);
+        out[4..24].copy_from_slice(&label);
+        LittleEndian::write_u32(&mut out[24..28], state);
+        LittleEndian::write_u32(&mut out[28..32], crc);
     }
 
-    /// Whether the CRC is that of the sequence, and the sequence is one that an entry may have.
+    /// Whether the CRC is that of the sequence, and the sequence is neither 0 nor that of an erased
+    /// sector.
+    #[tactic(auto, unfolding(crate::specs::Choice::matches))]
     pub fn matches(&self) -> bool
         ensures meaning { IsTrue result ↔ Matches self.now }
         ensures value { result ≡ matches self.now }
@@ -58,6 +66,7 @@ impl Entry {
     }
 
     /// Whether the entry matches and its application is neither rejected nor given up.
+    #[tactic(auto, unfolding(crate::specs::Choice::is_valid))]
     pub fn is_valid(&self) -> bool
         ensures meaning { IsTrue result ↔ IsValid self.now }
         ensures value { result ≡ is_valid self.now }
