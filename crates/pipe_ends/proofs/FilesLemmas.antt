@@ -62,7 +62,7 @@ find_set name (f ∷ fs) (suc i) d g q within has before it =
     let rest = find_set name fs i d g q (omega arith) has (λ k below. before (suc k) (omega arith)) it in
     let other : has_name name f ≡ false = before 0 (omega arith) in
     rw rest (apart (same q (string_bytes f.name)) (same q name) _ _ _
-      (λ first second. true≢false (sym ((bytes_decides (string_bytes f.name) name).1 (sym (equal q (string_bytes f.name) first) ∙ equal q name second)) ∙ other)))
+    (λ first second. true≢false (sym ((bytes_decides (string_bytes f.name) name).1 (sym (equal q (string_bytes f.name) first) ∙ equal q name second)) ∙ other)))
 
 -- the order of names is total, and only equal names tie in it
 order_total : IsTotalOrder (slice_cmp nat_cmp)
@@ -88,10 +88,10 @@ files_of-set name fs i d g some kept =
     let (within, has, before) = position-Some (has_name name) fs i d some in
     let it : string_bytes g.name ≡ name = kept ∙ named name (get_or fs i d) has in
     same_map order_total order_strict _ _ (λ q.
-      get-from_entries order_total (map entry_of (set fs i g)) q
-      ∙ find_set name fs i d g q within has before it
-      ∙ sym (get-insert order_total (files_of fs) name g.bytes.items q
-        ∙ ap (cond (same q name) (Some g.bytes.items)) (get-from_entries order_total (map entry_of fs) q)))
+    get-from_entries order_total (map entry_of (set fs i g)) q
+    ∙ find_set name fs i d g q within has before it
+    ∙ sym (get-insert order_total (files_of fs) name g.bytes.items q
+    ∙ ap (cond (same q name) (Some g.bytes.items)) (get-from_entries order_total (map entry_of fs) q)))
 
 -- no place for the name, and a file of it behind the others: the map has it besides
 pub files_of_push : (fs : List File) (g : File) → position (has_name (string_bytes g.name)) fs ≡ None → files_of (fs ++ g ∷ []) ≡ insert (files_of fs) (string_bytes g.name) g.bytes.items

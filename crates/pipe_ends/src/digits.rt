@@ -35,8 +35,7 @@ pub fn put_hex(out: &mut Vec<u8>, n: u64, digits: u8) -> Result<(), Memory>
 #[tactic(auto, using(crate::proofs::HexLemmas::hex_text_spells))]
 pub fn hex_digits_spell_their_number()
     ensures { (digits number : ℕ) → number < 16 ^ digits → digits_value 16 (hex_text digits number) ≡ number }
-{
-}
+{}
 
 fn hex_digit(digit: u64) -> u8
     requires { digit < 16 }
