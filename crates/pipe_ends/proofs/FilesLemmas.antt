@@ -1,9 +1,9 @@
 -- A list of files against the map that it is told as.
-use Rattle.std.proofs.Common.{◌≡◌, ◌≢◌, ℕ, ◌<◌, ◌≤◌, ◌-◌, Bool, true, false, cond, List, [], ◌∷◌, ◌++◌, map, length, get_or, set, zero, suc, true≢false, Some, None, Option, arith, refl, sym, ap, ◌∙◌, subst}
+use Rattle.std.proofs.Common.{◌≡◌, ◌≢◌, ℕ, ◌<◌, ◌≤◌, ◌-◌, Bool, true, false, cond, List, [], ◌∷◌, ◌++◌, map, length, get_or, set, zero, suc, true≢false, Some, None, Option, arith, refl, sym, ap, ◌∙◌}
 use Rattle.std.proofs.lemmas.Grind.{common_steps}
 use Rattle.std.specs.Ordering.{nat_cmp, eq_by_cmp}
 use Rattle.std.specs.Cmp.{IsTotalOrder, eq_by_cmp_equiv}
-use Rattle.std.specs.Cmp.Lexicographic.{slice_cmp, pointwise, texts_ties, bytes_decides, nat_list_cmp_total}
+use Rattle.std.specs.Cmp.Lexicographic.{slice_cmp, texts_ties, bytes_decides, nat_list_cmp_total}
 use Rattle.std.specs.FinMap.{IsAntisymmetric, get, insert, find, from_entries, get-from_entries, get-insert, same_map, from_entries_push, nat_cmp-IsAntisymmetric, slice_cmp-IsAntisymmetric}
 use Rattle.std.specs.List.{position, position_or_len, Any}
 use Rattle.std.proofs.lemmas.List.{map-append}
@@ -138,3 +138,12 @@ tells_just fs distinct = record {
   each = λ k d within. get-from_entries order_total (map entry_of fs) _ ∙ find_each fs k d distinct within;
   only = λ name some. find_only name fs (λ none. some (get-from_entries order_total (map entry_of fs) name ∙ none));
 }
+
+-- a name that has a place is found
+find_found : (name : List ℕ) (fs : List File) → position_or_len (has_name name) fs < length fs → find (slice_cmp nat_cmp) name (map entry_of fs) ≢ None
+find_found name [] within = absurd (omega arith)
+find_found name (f ∷ fs) within = grind (arith, common_steps, ties name f, find_found name fs)
+
+-- a name that has a place is told
+pub found : (name : List ℕ) (fs : List File) (i : ℕ) → position (has_name name) fs ≡ Some i → get (files_of fs) name ≢ None
+found name fs i some none = find_found name fs (grind (arith, some)) (sym (get-from_entries order_total (map entry_of fs) name) ∙ none)

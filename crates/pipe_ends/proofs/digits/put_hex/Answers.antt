@@ -1,6 +1,5 @@
-use Rattle.std.proofs.Common.{◌++◌, ◌-◌, ap, arith, ◌∙◌}
+use Rattle.std.proofs.Common.{arith}
 use Rattle.std.proofs.lemmas.Grind.{common_steps}
-use Rattle.pipe_ends.specs.Hex.{hex_text}
 use Rattle.pipe_ends.proofs.HexLemmas.{hex_text-step}
 use Rattle.pipe_ends.proofs.digits.put_hex.Goals as goal
 
