@@ -1,9 +1,9 @@
 -- A list of files against the map that it is told as.
-use Rattle.std.proofs.Common.{◌≡◌, ◌≢◌, ℕ, ◌<◌, ◌≤◌, ◌-◌, Bool, true, false, cond, List, [], ◌∷◌, ◌++◌, map, length, get_or, set, zero, suc, true≢false, Some, None, Option, arith, refl, sym, ap, ◌∙◌, subst}
+use Rattle.std.proofs.Common.{◌≡◌, ◌≢◌, ℕ, ◌<◌, ◌≤◌, ◌-◌, Bool, true, false, cond, List, [], ◌∷◌, ◌++◌, map, length, get_or, set, zero, suc, true≢false, Some, None, Option, arith, refl, sym, ap, ◌∙◌}
 use Rattle.std.proofs.lemmas.Grind.{common_steps}
 use Rattle.std.specs.Ordering.{nat_cmp, eq_by_cmp}
 use Rattle.std.specs.Cmp.{IsTotalOrder, eq_by_cmp_equiv}
-use Rattle.std.specs.Cmp.Lexicographic.{slice_cmp, pointwise, texts_ties, bytes_decides, nat_list_cmp_total}
+use Rattle.std.specs.Cmp.Lexicographic.{slice_cmp, texts_ties, bytes_decides, nat_list_cmp_total}
 use Rattle.std.specs.FinMap.{IsAntisymmetric, get, insert, find, from_entries, get-from_entries, get-insert, same_map, from_entries_push, nat_cmp-IsAntisymmetric, slice_cmp-IsAntisymmetric}
 use Rattle.std.specs.List.{position, position_or_len, Any}
 use Rattle.std.proofs.lemmas.List.{map-append}
@@ -62,7 +62,7 @@ find_set name (f ∷ fs) (suc i) d g q within has before it =
     let rest = find_set name fs i d g q (omega arith) has (λ k below. before (suc k) (omega arith)) it in
     let other : has_name name f ≡ false = before 0 (omega arith) in
     rw rest (apart (same q (string_bytes f.name)) (same q name) _ _ _
-      (λ first second. true≢false (sym ((bytes_decides (string_bytes f.name) name).1 (sym (equal q (string_bytes f.name) first) ∙ equal q name second)) ∙ other)))
+    (λ first second. true≢false (sym ((bytes_decides (string_bytes f.name) name).1 (sym (equal q (string_bytes f.name) first) ∙ equal q name second)) ∙ other)))
 
 -- the order of names is total, and only equal names tie in it
 order_total : IsTotalOrder (slice_cmp nat_cmp)
@@ -88,10 +88,10 @@ files_of-set name fs i d g some kept =
     let (within, has, before) = position-Some (has_name name) fs i d some in
     let it : string_bytes g.name ≡ name = kept ∙ named name (get_or fs i d) has in
     same_map order_total order_strict _ _ (λ q.
-      get-from_entries order_total (map entry_of (set fs i g)) q
-      ∙ find_set name fs i d g q within has before it
-      ∙ sym (get-insert order_total (files_of fs) name g.bytes.items q
-        ∙ ap (cond (same q name) (Some g.bytes.items)) (get-from_entries order_total (map entry_of fs) q)))
+    get-from_entries order_total (map entry_of (set fs i g)) q
+    ∙ find_set name fs i d g q within has before it
+    ∙ sym (get-insert order_total (files_of fs) name g.bytes.items q
+    ∙ ap (cond (same q name) (Some g.bytes.items)) (get-from_entries order_total (map entry_of fs) q)))
 
 -- no place for the name, and a file of it behind the others: the map has it besides
 pub files_of_push : (fs : List File) (g : File) → position (has_name (string_bytes g.name)) fs ≡ None → files_of (fs ++ g ∷ []) ≡ insert (files_of fs) (string_bytes g.name) g.bytes.items
@@ -138,3 +138,12 @@ tells_just fs distinct = record {
   each = λ k d within. get-from_entries order_total (map entry_of fs) _ ∙ find_each fs k d distinct within;
   only = λ name some. find_only name fs (λ none. some (get-from_entries order_total (map entry_of fs) name ∙ none));
 }
+
+-- a name that has a place is found
+find_found : (name : List ℕ) (fs : List File) → position_or_len (has_name name) fs < length fs → find (slice_cmp nat_cmp) name (map entry_of fs) ≢ None
+find_found name [] within = absurd (omega arith)
+find_found name (f ∷ fs) within = grind (arith, common_steps, ties name f, find_found name fs)
+
+-- a name that has a place is told
+pub found : (name : List ℕ) (fs : List File) (i : ℕ) → position (has_name name) fs ≡ Some i → get (files_of fs) name ≢ None
+found name fs i some none = find_found name fs (grind (arith, some)) (sym (get-from_entries order_total (map entry_of fs) name) ∙ none)

@@ -1,5 +1,5 @@
 -- Hex digits: what a shift and a mask give, and what number they spell.
-use Rattle.std.proofs.Common.{◌≡◌, ℕ, zero, suc, ◌+◌, ◌-◌, ◌*◌, ◌/◌, ◌%◌, ◌^◌, ◌<◌, List, ◌∷◌, refl, sym, ap, ◌∙◌, arith, lit<}
+use Rattle.std.proofs.Common.{◌≡◌, ℕ, zero, suc, ◌+◌, ◌-◌, ◌*◌, ◌/◌, ◌%◌, ◌^◌, ◌<◌, ◌∷◌, refl, sym, ap, ◌∙◌, arith, lit<}
 use Rattle.std.proofs.Math.Nat.{pow-suc, pow-succ', mod-eq_of_lt}
 use Rattle.std.proofs.lemmas.Nat.{and_mask, pow-add}
 use lib.Arith.{mod-mul}
@@ -41,13 +41,13 @@ spelled_after (suc place) before number =
     ap (λ d. digits_value_after 16 (before * 16 + d) (hex_text place number)) (digit_value-glyph here small)
     ∙ spelled_after place (before * 16 + here) number
     ∙ rw (power, rest) (regroup before here (16 ^ place) (number % 16 ^ place))
-    where
-      pos : (k : ℕ) → 0 < 16 ^ k
-      pos zero = lit< tt
-      pos (suc k) = let more = pos k in rw (pow-succ' 16 k) (omega arith)
+  where
+    pos : (k : ℕ) → 0 < 16 ^ k
+    pos zero = lit< tt
+    pos (suc k) = let more = pos k in rw (pow-succ' 16 k) (omega arith)
 
-      regroup : (a d p r : ℕ) → (a * 16 + d) * p + r ≡ a * (16 * p) + (d * p + r)
-      regroup a d p r = omega arith
+    regroup : (a d p r : ℕ) → (a * 16 + d) * p + r ≡ a * (16 * p) + (d * p + r)
+    regroup a d p r = omega arith
 
 -- as many digits as a number needs spell it
 pub hex_text_spells : (digits number : ℕ) → number < 16 ^ digits → digits_value 16 (hex_text digits number) ≡ number

@@ -1,12 +1,11 @@
 -- A store in memory: files in a list, and which calls fail.
-use Rattle.std.specs.Prelude.{◌≡◌, ◌≢◌, ℕ, List, [], ◌∷◌, map, refl, Bool, nat_eq, All, Any, Some, None}
-use Rattle.std.specs.Ordering.{nat_cmp}
-use Rattle.std.specs.Cmp.Lexicographic.{slice_cmp, pointwise}
+use Rattle.std.specs.Prelude.{◌≡◌, ◌≢◌, ℕ, List, [], ◌∷◌, map, refl, Bool, false, nat_eq, All, Any, Some, None}
+use Rattle.std.specs.Cmp.Lexicographic.{pointwise}
 use Rattle.std.specs.Coded.{Coded, code_by, coded×, coded_ℕ, coded_list}
 use Rattle.std.specs.FinMap.{get, insert, from_entries, code}
 use Rattle.std.specs.String.{string_bytes}
 use Rattle.pipe_ends.specs.declared.file.File.{File}
-use Rattle.pipe_ends.specs.Calls.{Counts, counts_code, after_call}
+use Rattle.pipe_ends.specs.Calls.{Counts, counts_code, after_call, fails_next}
 use Rattle.pipe_ends.specs.Store.{Files}
 
 -- what a store in memory has: its files, and its calls
@@ -31,6 +30,10 @@ counted shelf = record { files = shelf.files; calls = after_call shelf.calls }
 -- one more call came, and gave a file these bytes
 abbrev pub stored : Shelf → List ℕ → List ℕ → Shelf
 stored shelf name bytes = record { files = insert shelf.files name bytes; calls = after_call shelf.calls }
+
+-- the next call does not fail, and there is no file of this name
+abbrev pub LacksNext : Shelf → List ℕ → Type 0
+LacksNext shelf name = (fails_next shelf.calls ≡ false) × (get shelf.files name ≡ None)
 
 -- whether a file has this name
 abbrev pub has_name : List ℕ → File → Bool

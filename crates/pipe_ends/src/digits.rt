@@ -26,7 +26,7 @@ pub fn put_hex(out: &mut Vec<u8>, n: u64, digits: u8) -> Result<(), Memory>
 {
     out.reserve(usize::from(digits))?;
     for place in (0..digits).rev() {
-        out.push_reserved(hex_digit(n >> (4 * place) & 0xF));
+        out.push_reserved(hex_digit((n >> (4 * place)) & 0xF));
     }
     Ok(())
 }
@@ -34,9 +34,9 @@ pub fn put_hex(out: &mut Vec<u8>, n: u64, digits: u8) -> Result<(), Memory>
 /// Over every number: as many hex digits as it needs spell it, and no other number.
 #[tactic(auto, using(crate::proofs::HexLemmas::hex_text_spells))]
 pub fn hex_digits_spell_their_number()
-    ensures { (digits number : ℕ) → number < 16 ^ digits → digits_value 16 (hex_text digits number) ≡ number }
-{
-}
+    ensures { (digits number : ℕ) → number < 16 ^ digits
+        → digits_value 16 (hex_text digits number) ≡ number }
+{}
 
 fn hex_digit(digit: u64) -> u8
     requires { digit < 16 }

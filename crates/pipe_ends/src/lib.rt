@@ -19,3 +19,6 @@ pub use mem_sink::MemSink;
 pub use mem_store::MemStore;
 pub use sink::Sink;
 pub use store::Store;
+
+#[cfg(test)]
+mod tests;

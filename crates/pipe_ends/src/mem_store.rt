@@ -55,7 +55,7 @@ impl Store for MemStore {
     ghost use Rattle.std.specs.Prelude.{◌≡◌, ◌≤◌, ◌↔◌, OnOk, OnErr, IfOk, IsErrOf, IsTrue, Some, None};
     ghost use Rattle.std.specs.FinMap as map;
     ghost use Rattle.pipe_ends.specs.Calls.{fails_next};
-    ghost use Rattle.pipe_ends.specs.MemStore.{counted, stored};
+    ghost use Rattle.pipe_ends.specs.MemStore.{LacksNext, counted, stored};
 
     ghost files = { λ store. Some store.files };
 
@@ -63,7 +63,7 @@ impl Store for MemStore {
 
     fn get(&mut self, alloc: Global, name: &str) -> Result<Vec<u8>, GetFault>
         ensures bytes { IfOk result (λ bytes. map.get self.old.files name.now ≡ Some bytes.items) }
-        ensures absent { IsErrOf result GetFault.Absent → map.get self.old.files name.now ≡ None }
+        ensures absent { IsErrOf result GetFault.Absent ↔ LacksNext self.old name.now }
         ensures failed { IsErrOf result GetFault.Failed ↔ IsTrue (fails_next self.old.calls) }
         ensures counted { self.new ≡ counted self.old }
         ensures later { self.old.calls.faults ≤ self.new.calls.faults }

@@ -18,9 +18,9 @@ returns-in-Some-clause-put c =
     let file : File = record { name = c.index_mut.result.now.name; bytes = c.in_ok-bytes.bytes } in
     let kept = ap (λ (f : File). string_bytes f.name) c.index_mut.ensures.value in
     same_shelf _ _ (
-      files_of-set name files c.in-Some.place c.index_mut.result.now file some kept
-      ∙ ap (insert (files_of files) name) c.in_ok-bytes.ensures.items
-      ∙ ap (λ (all : Files). insert all name c.args.bytes.now) (ap (λ (s : Shelf). s.files) c.self.view_is)
+    files_of-set name files c.in-Some.place c.index_mut.result.now file some kept
+    ∙ ap (insert (files_of files) name) c.in_ok-bytes.ensures.items
+    ∙ ap (λ (all : Files). insert all name c.args.bytes.now) (ap (λ (s : Shelf). s.files) c.self.view_is)
     ) (c.next_fails.ensures.counted ∙ ap after_call (ap (λ (s : Shelf). s.calls) c.self.view_is))
 
 -- A file of the name stands behind the others.
@@ -32,9 +32,9 @@ returns-in_ok-push-in-None-clause-put c =
     let file : File = record { name = c.in_ok-name-in-None.name; bytes = c.in_ok-bytes.bytes } in
     let named : string_bytes file.name ≡ name = c.in_ok-name-in-None.ensures.ok in
     same_shelf _ _ (
-      ap files_of c.in_ok-push-in-None.ensures.items
-      ∙ files_of_push files file (rw named none)
-      ∙ ap (λ (n : List ℕ). insert (files_of files) n file.bytes.items) named
-      ∙ ap (insert (files_of files) name) c.in_ok-bytes.ensures.items
-      ∙ ap (λ (all : Files). insert all name c.args.bytes.now) (ap (λ (s : Shelf). s.files) c.self.view_is)
+    ap files_of c.in_ok-push-in-None.ensures.items
+    ∙ files_of_push files file (rw named none)
+    ∙ ap (λ (n : List ℕ). insert (files_of files) n file.bytes.items) named
+    ∙ ap (insert (files_of files) name) c.in_ok-bytes.ensures.items
+    ∙ ap (λ (all : Files). insert all name c.args.bytes.now) (ap (λ (s : Shelf). s.files) c.self.view_is)
     ) (c.next_fails.ensures.counted ∙ ap after_call (ap (λ (s : Shelf). s.calls) c.self.view_is))
