@@ -1,5 +1,5 @@
 -- What the words that compute say of two entries, in facts.
-use Rattle.std.proofs.Common.{◌≡◌, ◌↔◌, IsTrue, Some, None, arith, rules}
+use Rattle.std.proofs.Common.{◌<◌, IfSome, ◌≡◌, ◌↔◌, IsTrue, Some, None, arith, rules}
 use Rattle.std.proofs.lemmas.Bool.Decides.{nat_tests}
 use Rattle.otadata.specs.declared.entry.Entry.{Entry}
 use Rattle.otadata.specs.Choice.{IsValid, AreBothInvalid, IsFirst, IsSecond, matches, is_valid, active_of}
@@ -23,3 +23,8 @@ active-second e f = grind (arith, nat_tests, valid e, valid f)
 pub active-none : (e f : Entry) → (active_of e f ≡ None) ↔ AreBothInvalid e f
 unfolding active_of
 active-none e f = grind (arith, nat_tests, valid e, valid f)
+
+-- an active entry is one of the two
+pub active-lt : (e f : Entry) → IfSome (active_of e f) (λ number. number < 2)
+unfolding active_of
+active-lt e f = grind (arith, nat_tests)

@@ -4,9 +4,9 @@ use Rattle.std.proofs.lemmas.List.{append-nil, length-append, length-map, length
 use Rattle.std.proofs.lemmas.Nat.{xor_shr}
 use Rattle.std.proofs.lemmas.Nat.Bits.{bit_at_xor}
 use Rattle.std.proofs.Math.Nat.{pow-suc}
-use Rattle.otadata.specs.Polynomial.{xor, plus, scaled, raised, IsMonic, IsRemainder, left_after}
-use Rattle.otadata.specs.Crc.{bits, number_of, generator, divided, read_back, crc, shifted}
-use Rattle.otadata.proofs.PolynomialLemmas.{plus-zeros, remainder-unique}
+use Rattle.otadata.specs.Polynomial.{xor, plus, scaled, raised, IsMonic, IsRemainder, left_after, remainder}
+use Rattle.otadata.specs.Crc.{reflected, bits, number_of, generator, divided, read_back, crc, shifted}
+use Rattle.otadata.proofs.PolynomialLemmas.{plus-zeros, remainder-exists, remainder-unique}
 
 -- ---- the bits of a number
 
@@ -82,12 +82,12 @@ plus-scaled_zero (a ∷ p) [] e = absurd (omega arith)
 plus-scaled_zero (false ∷ p) (b ∷ q) e = ap (λ (r : List Bool). false ∷ r) (plus-scaled_zero p q (omega arith))
 plus-scaled_zero (true ∷ p) (b ∷ q) e = ap (λ (r : List Bool). true ∷ r) (plus-scaled_zero p q (omega arith))
 
--- on the bits of a register
+-- where b is one, the bits of y and of g are added
 plus-taken : (n y g : ℕ) (b : Bool) → plus (bits n y) (scaled b (bits n g)) ≡ bits n (cond b (bit_xor y g) y)
 plus-taken n y g true = rw (scaled-one (bits n g)) (plus-bits n y g)
 plus-taken n y g false = plus-scaled_zero (bits n y) (bits n g) (length-bits n y ∙ sym (length-bits n g))
 
--- with the bits that have not come yet behind them
+-- the same at a register that moved down by a bit, with k zeros behind it
 raised-taken : (w k y g : ℕ) (b : Bool) → y < 2 ^ w
     → plus (bits w y ++ (false ∷ replicate k false)) (raised (scaled b (bits (suc w) g)) k) ≡ raised (bits (suc w) (cond b (bit_xor y g) y)) k
 raised-taken w k y g b h =
@@ -99,7 +99,7 @@ raised-taken w k y g b h =
     ∙ ap (λ (p : List Bool). p ++ plus zeros zeros) (plus-taken n y g b)
     ∙ ap (λ (z : List Bool). bits n (cond b (bit_xor y g) y) ++ z) (plus-zeros k zeros (length-replicate k false))
 
--- a register of w + 1 bits, and as many steps of long division as bits have not come yet
+-- a step of long division on a register of w + 1 bits and the zeros behind it
 left_after-shifted : (w k r g : ℕ) → r < 2 ^ suc w
     → left_after (suc k) (raised (bits (suc w) r) (suc k)) (true ∷ bits (suc w) g)
     ≡ left_after k (raised (bits (suc w) (cond (r % 2 == 1) (bit_xor (r / 2) g) (r / 2))) k) (true ∷ bits (suc w) g)
@@ -116,7 +116,7 @@ rest_of k register = left_after k (raised (bits 32 register) k) generator
 -- a step
 pub rest_of-suc : (k register : ℕ) → register < 2 ^ 32 → rest_of (suc k) register ≡ rest_of k (shifted register)
 unfolding rest_of generator
-rest_of-suc k register h = left_after-shifted 31 k register 0xEDB88320 h
+rest_of-suc k register h = left_after-shifted 31 k register reflected h
 
 -- at the end the register holds the remainder
 pub rest_of-zero : (register : ℕ) → rest_of 0 register ≡ bits 32 register
@@ -126,21 +126,30 @@ rest_of-zero register = append-nil (bits 32 register)
 -- the highest coefficient of the divisor is one
 pub generator-monic : IsMonic generator
 unfolding generator
-generator-monic = record { rest = bits 32 0xEDB88320; leads = refl }
+generator-monic = record { rest = bits 32 reflected; leads = refl }
 
 -- it has 33 coefficients
 length-generator : length generator ≡ 33
 unfolding generator
-length-generator = let e = length-bits 32 0xEDB88320 in omega arith
+length-generator = let e = length-bits 32 reflected in omega arith
+
+-- the dividend has 64 coefficients
+length-divided : (seq : ℕ) → length (divided seq) ≡ 64
+unfolding divided
+length-divided seq =
+    length-append (bits 32 seq) (replicate 32 false) ∙ ap (λ (n : ℕ). n + length (replicate 32 false)) (length-bits 32 seq)
 
 -- the CRC is read from what 32 steps leave
 pub crc-rest : (seq : ℕ) → crc seq ≡ read_back (rest_of 32 seq)
 unfolding crc rest_of divided
 crc-rest seq =
-    let long : length (raised (bits 32 seq) 32) ≡ 64 =
-    length-append (bits 32 seq) (replicate 32 false) ∙ ap (λ (n : ℕ). n + length (replicate 32 false)) (length-bits 32 seq) in
-    let steps : length (raised (bits 32 seq) 32) + 1 - length generator ≡ 32 = omega (arith, long, length-generator) in
-    ap (λ (n : ℕ). read_back (left_after n (raised (bits 32 seq) 32) generator)) steps
+    let steps : length (divided seq) + 1 - length generator ≡ 32 = omega (arith, length-divided seq, length-generator) in
+    ap (λ (n : ℕ). read_back (left_after n (divided seq) generator)) steps
+
+-- the division leaves a remainder
+pub divided-remainder : (seq : ℕ) → IsRemainder (divided seq) generator (remainder (divided seq) generator)
+divided-remainder seq =
+    remainder-exists (divided seq) generator generator-monic (omega (arith, length-divided seq, length-generator))
 
 -- the register fits, and k more steps leave of it what all steps leave of the sequence
 pub record IsOnTheWay (k seq register : ℕ) : Type 0 where

@@ -5,7 +5,7 @@ use Rattle.otadata.specs.declared.entry.TheConstants.{BLANK}
 use Rattle.otadata.specs.declared.state.TheConstants.{INVALID, ABORTED}
 use Rattle.otadata.specs.Crc.{crc}
 
--- the entry's CRC is that of its sequence, and its sequence is neither 0 nor that of an erased sector
+-- the entry's CRC is that of its sequence, and its sequence is neither 0 nor an erased sector's
 pub record Matches (e : Entry) : Type 0 where
   pub crc_fits : e.crc ≡ crc e.seq
   pub numbered : e.seq ≢ 0

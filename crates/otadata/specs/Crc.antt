@@ -1,4 +1,4 @@
--- The CRC of a sequence.
+-- The CRC of a sequence: the remainder of a division of polynomials, read back and inverted.
 use Rattle.std.specs.Prelude.{ℕ, zero, suc, ◌+◌, ◌-◌, ◌*◌, ◌/◌, ◌%◌, ◌^◌, ◌==◌, if◌then◌else◌, bit_xor, Bool, true, List, [], ◌∷◌}
 use Rattle.otadata.specs.Polynomial.{raised, remainder}
 
@@ -12,12 +12,15 @@ unfoldable pub number_of : List Bool → ℕ
 number_of [] = 0
 number_of (b ∷ bs) = (if b then 1 else 0) + 2 * number_of bs
 
--- the polynomial of CRC-32, whose reflected number is 0xEDB88320: x to the power 32, and below it the
--- coefficients that are the number's bits, bit 0 highest
-unfoldable pub generator : List Bool
-generator = true ∷ bits 32 0xEDB88320
+-- the polynomial of CRC-32 below x to the power 32, the coefficient of x to the power 31 as bit 0
+abbrev pub reflected : ℕ
+reflected = 0xEDB88320
 
--- the polynomial that is divided: the 32 bits of the sequence, bit 0 highest, times x to the power 32
+-- the polynomial of CRC-32: x to the power 32, and below it the bits of its reflected number
+unfoldable pub generator : List Bool
+generator = true ∷ bits 32 reflected
+
+-- the dividend: the 32 bits of the sequence, bit 0 highest, times x to the power 32
 unfoldable pub divided : ℕ → List Bool
 divided seq = raised (bits 32 seq) 32
 
@@ -32,4 +35,4 @@ crc seq = read_back (remainder (divided seq) generator)
 -- a reflected register of 32 bits after a step: it moves down by a bit, and the polynomial is taken
 -- away where the bit that falls out is one
 abbrev pub shifted : ℕ → ℕ
-shifted register = if register % 2 == 1 then bit_xor (register / 2) 0xEDB88320 else register / 2
+shifted register = if register % 2 == 1 then bit_xor (register / 2) reflected else register / 2

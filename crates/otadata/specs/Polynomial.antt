@@ -1,5 +1,5 @@
 -- Polynomials over two values, and their division.
--- A polynomial is the list of its coefficients, the highest first; `true` is one, and `false` is zero.
+-- A polynomial is the list of its coefficients, the highest first; `true` is one, `false` is zero.
 use Rattle.std.specs.Prelude.{◌≡◌, ℕ, zero, suc, ◌+◌, ◌-◌, Bool, true, false, ◌&&◌, not, List, [], ◌∷◌, ◌++◌, length, map, drop, replicate}
 
 -- the sum of two coefficients: one and one are zero
@@ -25,7 +25,7 @@ raised p n = p ++ replicate n false
 abbrev pub widened : ℕ → List Bool → List Bool
 widened n p = replicate n false ++ p
 
--- the product: each coefficient of q times d, raised by its place, summed
+-- the product of q and d: d times each coefficient of q, raised by its place, all added
 abbrev pub times : List Bool → List Bool → List Bool
 times [] d = replicate (length d - 1) false
 times (b ∷ q) d = plus (raised (scaled b d) (length q)) (false ∷ times q d)
@@ -41,8 +41,8 @@ pub record IsRemainder (p d r : List Bool) : Type 0 where
   pub shorter : length r + 1 ≡ length d
   pub sums : p ≡ plus (times quotient d) (widened (length quotient) r)
 
--- what is left of p after n steps of long division by d: each step takes d, raised under the highest
--- coefficient of p, away where that coefficient is one, and drops the zero that then leads
+-- what is left of p after n steps of long division by d: where the highest coefficient of p is one,
+-- a step takes d away, raised to stand under it, and the zero that then leads is dropped
 unfoldable pub left_after : ℕ → List Bool → List Bool → List Bool
 left_after zero p d = p
 left_after (suc n) [] d = []

@@ -5,13 +5,14 @@ ghost use Rattle.std.specs.Prelude.{◌≡◌, ◌<◌, ◌≤◌, ◌+◌, ◌^
 ghost use Rattle.otadata.specs.Polynomial.{IsMonic, IsRemainder, remainder};
 ghost use Rattle.otadata.specs.Crc.{crc, divided, generator, read_back, shifted};
 
-/// The polynomial, its highest coefficient but one as bit 0.
+/// The polynomial of CRC-32 below x to the power 32, the coefficient of x to the power 31 as bit 0.
 const POLYNOMIAL: u32 = 0xEDB8_8320;
 
 /// What the register holds before the first bit.
 const START: u32 = 0;
 
-/// The CRC of an entry's sequence (ESP-IDF Programming Guide, over the air updates).
+/// The CRC of an entry: of the four bytes of its sequence alone (ESP-IDF,
+/// `bootloader_common_ota_select_crc`). It equals the usual CRC-32 of the four complemented bytes.
 pub fn crc_of(seq: u32) -> u32
     ensures { result ≡ crc seq }
 {
@@ -22,7 +23,7 @@ pub fn crc_of(seq: u32) -> u32
     !register
 }
 
-/// The register one bit later.
+/// The register after one more bit.
 fn shifted(register: u32) -> u32
     ensures { result ≡ shifted register }
 {
@@ -42,6 +43,8 @@ pub fn division_leaves_one_remainder()
 
 /// The CRC is read from the remainder, whichever way that was found, and has 32 bits.
 pub fn crc_is_read_from_the_remainder()
+    ensures exists { (seq : ℕ)
+        → IsRemainder (divided seq) generator (remainder (divided seq) generator) }
     ensures crc { (seq : ℕ) (r : List Bool) → IsRemainder (divided seq) generator r
         → crc seq ≡ read_back r }
     ensures fits { (seq : ℕ) → crc seq < 2 ^ 32 }

@@ -13,12 +13,16 @@ use byteorder::{ByteOrder, LittleEndian};
 /// The sequence that an erased sector reads as.
 pub const BLANK: u32 = 0xFFFF_FFFF;
 
-/// What a sector of the OTA data says of one application slot.
+/// What a sector of the OTA data says (ESP-IDF, `esp_ota_select_entry_t`).
 #[derive(Clone, Copy, Debug, PartialEq, Eq)]
 pub struct Entry {
+    /// Counts the updates from 1, and so names the slot.
     pub seq: u32,
+    /// Twenty 0xFF in a new entry. No rule reads it.
     pub label: [u8; 20],
+    /// How far the application has come: one of [`state`], or any other number.
     pub state: u32,
+    /// The CRC of the sequence.
     pub crc: u32,
 }
 
@@ -75,8 +79,8 @@ impl Entry {
     }
 }
 
-/// Entries and their bytes say the same: an entry is read where its bytes stand first, and its bytes
-/// are those that it was read from.
+/// Entries and their bytes say the same: an entry is read where its bytes stand first, and its
+/// bytes are those that it was read from.
 pub fn entries_are_their_bytes()
     ensures entry { (e : Entry) (rest : List ℕ) → IsSized e → entry_of (entry_bytes e ++ rest) ≡ e }
     ensures bytes { (bytes : List ℕ) → 32 ≤ length bytes → All (λ b. b < 256) bytes

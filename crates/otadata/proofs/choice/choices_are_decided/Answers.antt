@@ -1,5 +1,5 @@
 -- What the words that compute say of two entries, in facts.
-use Rattle.otadata.proofs.ChoiceLemmas.{active-none, active-first, active-second}
+use Rattle.otadata.proofs.ChoiceLemmas.{active-none, active-first, active-second, active-lt}
 use Rattle.otadata.proofs.choice.choices_are_decided.Goals as goal
 
 pub returns-clause-none : goal.returns-clause-none
@@ -10,3 +10,6 @@ returns-clause-first c = active-first
 
 pub returns-clause-second : goal.returns-clause-second
 returns-clause-second c = active-second
+
+pub returns-clause-within : goal.returns-clause-within
+returns-clause-within c = active-lt
