@@ -13,7 +13,7 @@ use Rattle.flash_cli.specs.declared.stop.Stop.TheVariants.{Refused, Halted}
 use Rattle.flash_cli.specs.Choose.{choice_of}
 use Rattle.flash_cli.specs.Command.{Command, Choose, names_of}
 use Rattle.flash_cli.specs.Text.{usage_line}
-use Rattle.flash_cli.specs.Report.{FilesRead, AreFrom, Gives, IsDone, IsEnd, IsFileRead, IsPartlyReported, IsResult, outcome, report, result_of, text_of_choice}
+use Rattle.flash_cli.specs.Report.{FilesRead, AreFrom, Gives, IsDone, IsEnd, IsFileRead, IsPartlyReported, IsResult, outcome, read_from, report, result_of, text_of_choice}
 
 -- what `choose` reads, where its one file was read so
 one_file : (told : Option Files) (name : List ℕ) (file : Option (Vec ℕ Global))
@@ -41,17 +41,21 @@ ended told name flash before now (Err (Refused why)) read gives = chosen told na
 ended told name flash before now (Err (Halted Store)) read gives = absurd gives
 ended told name flash before now (Err (Halted Memory)) read gives = tt
 
+-- what is no command reads nothing
+none_read : (told : Option Files) → AreFrom told None []
+none_read None = tt
+none_read (Some files) = refl
+
 -- words that are no command come to the usage line
 pub no_command : (told : Option Files) (command : Option Command) (text : List ℕ)
     → command ≡ None → text ≡ usage_line → IsDone told command Usage text
-no_command told None text none same = record { read = []; from = refl; ends = refl; tells = same }
+no_command told None text none same = record { read = []; from = none_read told; ends = refl; tells = same }
 no_command told (Some command) text none same = absurd (cc)
 
 -- some files that a command reads, the store's where it tells them
 some_read : (told : Option Files) (command : Option Command) → (read : FilesRead) × AreFrom told command read
-some_read told None = ([], refl)
-some_read None (Some command) = ([], tt)
-some_read (Some files) (Some command) = (map (get files) (names_of command), refl)
+some_read None command = ([], tt)
+some_read (Some files) command = (read_from files command, refl)
 
 -- of a text nothing was pushed
 no_part : (before : Option (List ℕ)) (text : List ℕ) → TellsSome before text before

@@ -14,6 +14,7 @@ use Rattle.flash_cli.specs.declared.stop.Halt.{Halt}
 use Rattle.flash_cli.specs.declared.stop.Halt.TheVariants.{Store, Memory}
 use Rattle.flash_cli.specs.declared.stop.Stop.{Stop}
 use Rattle.flash_cli.specs.declared.stop.Stop.TheVariants.{Refused, Halted}
+use Rattle.flash_cli.specs.declared.top.Finished.{Finished}
 use Rattle.flash_cli.specs.Command.{Command, Choose, names_of}
 use Rattle.flash_cli.specs.Choose.{choice_of}
 use Rattle.flash_cli.specs.Text.{choice_text, refusal_line, usage_line}
@@ -22,10 +23,14 @@ use Rattle.flash_cli.specs.Text.{choice_text, refusal_line, usage_line}
 abbrev pub FilesRead : Type 0
 FilesRead = List (Option (List ℕ))
 
--- a store that tells its files has these, by the names of the command
+-- what words read in a store of these files: by the names of the command, where they are one
+abbrev pub read_from : Files → Option Command → FilesRead
+read_from files None = []
+read_from files (Some command) = map (get files) (names_of command)
+
+-- where the files are told, these are what the words read in them
 abbrev pub AreFrom : Option Files → Option Command → FilesRead → Type 0
-AreFrom told None read = read ≡ []
-AreFrom told (Some command) read = IfSome told (λ files. read ≡ map (get files) (names_of command))
+AreFrom told command read = IfSome told (λ files. read ≡ read_from files command)
 
 -- the text of a choice, where there is one
 abbrev pub text_of_choice : Result Choice Refusal → Result (List ℕ) Refusal
@@ -58,11 +63,22 @@ abbrev pub report : Option Command → FilesRead → List ℕ
 report None read = usage_line
 report (Some command) read = text_of command (result_of command read)
 
+-- the store counted a fault, and nothing was pushed
+pub record FailedSilently (before now : ℕ) (pushed after : Option (List ℕ)) : Type 0 where
+  pub counted : Rose before now
+  pub silent : after ≡ pushed
+
 -- A command has this result on some files, which are the store's where it tells them.
 pub record IsResult (told : Option Files) (command : Command) (result : Result (List ℕ) Refusal) : Type 0 where
   pub read : FilesRead
   pub from : AreFrom told (Some command) read
   pub is : result ≡ result_of command read
+
+-- the words were found to be no command, or memory ran out
+abbrev pub IsUsageOrMemory : Result Finished Halt → Type 0
+IsUsageOrMemory (Ok done) = done.status ≡ Usage
+IsUsageOrMemory (Err Store) = ⊥
+IsUsageOrMemory (Err Memory) = Unit {0}
 
 -- The words come to this status and this text on some files, which are the store's where it tells them.
 pub record IsDone (told : Option Files) (command : Option Command) (status : Status) (text : List ℕ) : Type 0 where
@@ -70,6 +86,10 @@ pub record IsDone (told : Option Files) (command : Option Command) (status : Sta
   pub from : AreFrom told command read
   pub ends : status ≡ outcome command read
   pub tells : text ≡ report command read
+
+-- Where the files are told, the words come to this status in them.
+abbrev pub IsOutcomeIn : Option Files → Option Command → Status → Type 0
+IsOutcomeIn told command status = IfSome told (λ files. status ≡ outcome command (read_from files command))
 
 -- The words came to this status, and their whole text was pushed.
 pub record IsReported (told : Option Files) (command : Option Command) (status : Status) (before after : Option (List ℕ)) : Type 0 where

@@ -31,6 +31,16 @@ IsCutShort SinkFault = Unit {0}
 IsCutShort Memory = Unit {0}
 IsCutShort _ = ⊥
 
+-- the work came to its end, or memory ran out
+abbrev pub IsWorkOrMemory : Status → Type 0
+IsWorkOrMemory Memory = Unit {0}
+IsWorkOrMemory status = IsWork status
+
+-- the words were found to be no command, or that could not be pushed
+abbrev pub IsUsageOrCutShort : Status → Type 0
+IsUsageOrCutShort Usage = Unit {0}
+IsUsageOrCutShort status = IsCutShort status
+
 -- the status is that of a device, which no command without cores has
 abbrev pub IsDevices : Status → Type 0
 IsDevices (DeviceFault step) = Unit {0}

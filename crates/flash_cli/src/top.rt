@@ -3,8 +3,8 @@
 ghost use Rattle.std.specs.Prelude.{◌≡◌, None, IfOk, IfErr};
 ghost use Rattle.pipe_ends.specs.Fault.{Rose};
 ghost use Rattle.flash_cli.specs.Command.{command_of, words_of, shown};
-ghost use Rattle.flash_cli.specs.Status.{IsWork, IsCutShort, IsDevices};
-ghost use Rattle.flash_cli.specs.Report.{HasCause, IsEnd, IsDone, IsReported, IsPartlyReported};
+ghost use Rattle.flash_cli.specs.Status.{IsWork, IsCutShort, IsWorkOrMemory, IsUsageOrCutShort, IsDevices};
+ghost use Rattle.flash_cli.specs.Report.{HasCause, FailedSilently, IsEnd, IsDone, IsUsageOrMemory, IsOutcomeIn, IsReported, IsPartlyReported};
 
 use crate::choose::run_choose;
 use crate::command::Command;
@@ -27,18 +27,24 @@ pub(crate) fn plain<S: Store, K: Sink>(
 ) -> Status
     // Words that are no command are a matter of usage, and nothing else is.
     ensures usage { result ≡ Status.Usage → command_of (words_of words.now) ≡ None }
-    // The status and the text are those of the command on the files that it read.
+    ensures no_command { command_of (words_of words.now) ≡ None → IsUsageOrCutShort result }
+
+    // Status and text are those of the command on the files that it read; a store that tells its files decides both.
     ensures work { IsWork result → IsReported (S.files store.old) (command_of (words_of words.now)) result
         (K.pushed out.old) (K.pushed out.new) }
-    // Where the sink or memory failed, a part of that text was pushed.
+    ensures told { IsWork result → IsOutcomeIn (S.files store.old) (command_of (words_of words.now)) result }
     ensures cut_short { IsCutShort result → IsPartlyReported (S.files store.old)
         (command_of (words_of words.now)) (K.pushed out.old) (K.pushed out.new) }
-    ensures store_fault { result ≡ Status.StoreFault → Rose (S.faults store.old) (S.faults store.new) }
-    ensures store_fault_silent { result ≡ Status.StoreFault → K.pushed out.new ≡ K.pushed out.old }
+
+    // A fault has its cause: without one the work's status is the answer, want of memory aside.
+    ensures store_fault { result ≡ Status.StoreFault → FailedSilently (S.faults store.old) (S.faults store.new)
+        (K.pushed out.old) (K.pushed out.new) }
     ensures sink_fault { result ≡ Status.SinkFault → Rose (K.faults out.old) (K.faults out.new) }
-    // No device takes part.
-    ensures no_device { IsDevices result → ⊥ }
-    // No file is put.
+    ensures faultless { ¬ Rose (S.faults store.old) (S.faults store.new)
+        → ¬ Rose (K.faults out.old) (K.faults out.new) → IsWorkOrMemory result }
+
+    // No device takes part, and no file is put.
+    ensures no_device { ¬ IsDevices result }
     ensures files { S.files store.new ≡ S.files store.old }
 {
     match work(alloc, words, store) {
@@ -63,6 +69,7 @@ struct Finished {
 fn work<S: Store>(alloc: Global, words: &[String], store: &mut S) -> Result<Finished, Halt>
     ensures done { IfOk result (λ done. IsDone (S.files store.old) (command_of (words_of words.now))
         done.status done.text.items) }
+    ensures no_command { command_of (words_of words.now) ≡ None → IsUsageOrMemory result }
     ensures cause { IfErr result (HasCause (S.faults store.old) (S.faults store.new)) }
     ensures files { S.files store.new ≡ S.files store.old }
 {
