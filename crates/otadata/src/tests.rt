@@ -1,3 +1,5 @@
+//! Values from outside: CRCs of another program, published bytes, and the choice around a tie.
+
 use super::*;
 
 /// An entry of this sequence and state whose CRC matches.
