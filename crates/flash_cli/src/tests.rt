@@ -226,6 +226,6 @@ fn a_refused_allocation_is_want_of_memory(rt: HostRuntime) {
     for row in rows() {
         let holds = is_row_or_memory(rt.alloc(), &row);
         let why = row.why;
-        assert!(rt; holds, "{why}");
+        assert_eq!(rt; holds, true, "status: {why}");
     }
 }
