@@ -1,4 +1,4 @@
--- Calls that are counted, of which some are to fail: how the store and the sink in memory make faults.
+-- Calls that are counted, of which some fail: how the store and the sink in memory make faults.
 use Rattle.std.specs.Prelude.{ℕ, ◌+◌, ◌-◌, ◌^◌, min, nat_eq, Bool, if◌then◌else◌, List, refl}
 use Rattle.std.specs.Coded.{Coded, code_by, coded×, coded_ℕ, coded_list}
 use Rattle.std.specs.List.{list_any}
@@ -13,7 +13,8 @@ pub record Counts : Type 0 where
 abbrev pub counts_code : Coded Counts
 counts_code =
     code_by (List ℕ × (ℕ × ℕ)) (coded× (coded_list coded_ℕ) (coded× coded_ℕ coded_ℕ))
-    (λ c. (c.failing, (c.made, c.faults))) (λ p. record { failing = p.0; made = p.1.0; faults = p.1.1 }) (λ _. refl)
+    (λ c. (c.failing, (c.made, c.faults)))
+    (λ p. record { failing = p.0; made = p.1.0; faults = p.1.1 }) (λ _. refl)
 
 -- a count with one more, or its last value
 abbrev pub one_more : ℕ → ℕ

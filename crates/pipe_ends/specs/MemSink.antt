@@ -12,7 +12,8 @@ pub record Basin : Type 0 where
 abbrev pub basin_code : Coded Basin
 basin_code =
     code_by (List ℕ × Counts) (coded× (coded_list coded_ℕ) counts_code)
-    (λ basin. (basin.bytes, basin.calls)) (λ parts. record { bytes = parts.0; calls = parts.1 }) (λ _. refl)
+    (λ basin. (basin.bytes, basin.calls))
+    (λ parts. record { bytes = parts.0; calls = parts.1 }) (λ _. refl)
 
 -- one more call came, and the bytes stayed
 abbrev pub refused : Basin → Basin

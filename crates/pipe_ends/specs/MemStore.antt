@@ -17,7 +17,8 @@ pub record Shelf : Type 0 where
 abbrev pub shelf_code : Coded Shelf
 shelf_code =
     code_by (Files × Counts) (coded× (code (coded_list coded_ℕ) (coded_list coded_ℕ)) counts_code)
-    (λ shelf. (shelf.files, shelf.calls)) (λ parts. record { files = parts.0; calls = parts.1 }) (λ _. refl)
+    (λ shelf. (shelf.files, shelf.calls))
+    (λ parts. record { files = parts.0; calls = parts.1 }) (λ _. refl)
 
 -- the name and the bytes of a file
 abbrev pub entry_of : File → List ℕ × List ℕ
@@ -29,7 +30,10 @@ counted shelf = record { files = shelf.files; calls = after_call shelf.calls }
 
 -- one more call came, and gave a file these bytes
 abbrev pub stored : Shelf → List ℕ → List ℕ → Shelf
-stored shelf name bytes = record { files = insert shelf.files name bytes; calls = after_call shelf.calls }
+stored shelf name bytes = record {
+  files = insert shelf.files name bytes;
+  calls = after_call shelf.calls;
+}
 
 -- the next call does not fail, and there is no file of this name
 abbrev pub LacksNext : Shelf → List ℕ → Type 0
@@ -56,4 +60,5 @@ AreDistinct (file ∷ files) = HasNoneNamed (string_bytes file.name) files × Ar
 -- files that are told just as a list gives them: each of the list by its name, and none besides
 pub record TellsJust (told : Files) (files : List File) : Type 0 where
   pub each : All (λ file. get told (string_bytes file.name) ≡ Some file.bytes.items) files
-  pub only : (name : List ℕ) → get told name ≢ None → Any (λ file. string_bytes file.name ≡ name) files
+  pub only : (name : List ℕ) → get told name ≢ None
+      → Any (λ file. string_bytes file.name ≡ name) files

@@ -16,6 +16,6 @@ TellsFile told name bytes = IfSome told (λ files. get files name ≡ Some bytes
 abbrev pub TellsNoFile : Option Files → List ℕ → Type 0
 TellsNoFile told name = IfSome told (λ files. get files name ≡ None)
 
--- where the files were told, they are told again: this one has these bytes, and every other is as it was
+-- where the files were told, they are told again: this one has these bytes, each other as it was
 abbrev pub TellsPut : Option Files → List ℕ → List ℕ → Option Files → Type 0
 TellsPut before name bytes after = IfSome before (λ files. after ≡ Some (insert files name bytes))

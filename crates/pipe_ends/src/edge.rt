@@ -1,4 +1,4 @@
-//! The trusted edge: files under the current folder and standard output, of which no contract can tell.
+//! The trusted edge: files and standard output, of which no contract can tell.
 ghost use Rattle.std.specs.Prelude.{◌≡◌, None};
 
 use crate::fault::{GetFault, PushFault, PutFault};
@@ -10,7 +10,8 @@ use std::io::{ErrorKind, Read};
 use std::rt::Files;
 use std::{fs, io};
 
-/// Files under the current folder. It tells none of them.
+/// Files of the system, under the current folder where the name is no path from the root. It tells
+/// none of them. No such file is `Absent`, want of memory is `Memory`, and all else is counted.
 #[derive(Drop)]
 pub struct DirStore<'a, R: Files + AllocGlobal> {
     rt: &'a R,
@@ -24,17 +25,6 @@ impl<'a, R: Files + AllocGlobal> DirStore<'a, R> {
     {
         DirStore { rt, faults: 0 }
     }
-}
-
-/// All bytes of a file, read into room that is taken once. A file that grew meanwhile is read to its
-/// new end, into more room.
-fn read_whole<R: Files>(rt: &R, alloc: Global, name: &str) -> io::Result<Vec<u8>> {
-    let mut file = fs::open(rt, name)?;
-    let length = file.metadata()?.len();
-    // One byte more than the file has, so that the read that finds the end needs no new room.
-    let mut bytes = Vec::with_capacity(alloc, length.saturating_add(1) as usize)?;
-    file.read_to_end(&mut bytes)?;
-    Ok(bytes)
 }
 
 impl<'a, R: Files + AllocGlobal> Store for DirStore<'a, R> {
@@ -68,7 +58,7 @@ impl<'a, R: Files + AllocGlobal> Store for DirStore<'a, R> {
     }
 }
 
-/// Standard output. It tells none of the bytes.
+/// Standard output. It tells none of the bytes. Want of memory is `Memory`, all else is counted.
 #[derive(Drop)]
 pub struct StdSink<'a, R: Print> {
     rt: &'a R,
@@ -99,4 +89,15 @@ impl<'a, R: Print> Sink for StdSink<'a, R> {
             }
         }
     }
+}
+
+// All bytes of a file, read into room that is taken once. A file that grew meanwhile is read to its
+// new end, into more room.
+fn read_whole<R: Files>(rt: &R, alloc: Global, name: &str) -> io::Result<Vec<u8>> {
+    let mut file = fs::open(rt, name)?;
+    let length = file.metadata()?.len();
+    // One byte more than the file has, so that the read that finds the end needs no new room.
+    let mut bytes = Vec::with_capacity(alloc, length.saturating_add(1) as usize)?;
+    file.read_to_end(&mut bytes)?;
+    Ok(bytes)
 }

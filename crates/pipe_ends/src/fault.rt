@@ -45,17 +45,6 @@ impl From<AllocError> for GetFault {
     }
 }
 
-impl<T: Drop> From<AllocFailed<T>> for GetFault {
-    ghost use Rattle.std.specs.Prelude.{◌≡◌};
-    ghost use Rattle.pipe_ends.specs.declared.fault.GetFault.TheVariants.{Memory};
-
-    ghost from_gives = { λ _ e. e ≡ Memory };
-
-    fn from(_refused: AllocFailed<T>) -> GetFault {
-        GetFault::Memory
-    }
-}
-
 impl From<AllocError> for PutFault {
     ghost use Rattle.std.specs.Prelude.{◌≡◌};
     ghost use Rattle.pipe_ends.specs.declared.fault.PutFault.TheVariants.{Memory};

@@ -1,4 +1,4 @@
-//! The two ends of a program as traits: a store of files and a sink of bytes, in memory and outside.
+//! The two ends of a program: a store of files and a sink of bytes, in memory and outside.
 #![tactic(auto)]
 
 mod calls;

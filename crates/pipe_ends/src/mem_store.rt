@@ -44,13 +44,6 @@ impl MemStore {
     }
 }
 
-// The place of the first file with this name.
-fn place_of(files: &[File], name: &str) -> Option<usize>
-    ensures { result ≡ position (has_name name.now) files.now }
-{
-    files.iter().position(|file| file.name.as_str() == name)
-}
-
 impl Store for MemStore {
     ghost use Rattle.std.specs.Prelude.{◌≡◌, ◌≤◌, ◌↔◌, OnOk, OnErr, IfOk, IsErrOf, IsTrue, Some, None};
     ghost use Rattle.std.specs.FinMap as map;
@@ -96,4 +89,11 @@ impl Store for MemStore {
         }
         Ok(())
     }
+}
+
+// The place of the first file with this name.
+fn place_of(files: &[File], name: &str) -> Option<usize>
+    ensures { result ≡ position (has_name name.now) files.now }
+{
+    files.iter().position(|file| file.name.as_str() == name)
 }

@@ -19,5 +19,6 @@ pub trait Sink {
         ensures all { OnOk result (TellsAll (pushed self.old) bytes.now (pushed self.new)) }
         ensures some { OnErr result (TellsSome (pushed self.old) bytes.now (pushed self.new)) }
         ensures later { faults self.old ≤ faults self.new }
-        ensures failed { IsErrOf result PushFault.Failed → Rose (faults self.old) (faults self.new) };
+        ensures failed { IsErrOf result PushFault.Failed
+            → Rose (faults self.old) (faults self.new) };
 }

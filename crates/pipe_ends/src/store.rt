@@ -20,7 +20,8 @@ pub trait Store {
         ensures absent { IsErrOf result GetFault.Absent → TellsNoFile (files self.old) name.now }
         ensures same { files self.new ≡ files self.old }
         ensures later { faults self.old ≤ faults self.new }
-        ensures failed { IsErrOf result GetFault.Failed → Rose (faults self.old) (faults self.new) };
+        ensures failed { IsErrOf result GetFault.Failed
+            → Rose (faults self.old) (faults self.new) };
 
     /// Gives the file of this name these bytes, and makes it where there is none. Every other file
     /// stays as it is, and so does this one after a refusal.
@@ -28,5 +29,6 @@ pub trait Store {
         ensures put { OnOk result (TellsPut (files self.old) name.now bytes.now (files self.new)) }
         ensures same { OnErr result (files self.new ≡ files self.old) }
         ensures later { faults self.old ≤ faults self.new }
-        ensures failed { IsErrOf result PutFault.Failed → Rose (faults self.old) (faults self.new) };
+        ensures failed { IsErrOf result PutFault.Failed
+            → Rose (faults self.old) (faults self.new) };
 }
