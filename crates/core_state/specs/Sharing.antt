@@ -1,5 +1,5 @@
 -- What the two cores did to a value, as one of them sees it.
-use Rattle.std.specs.Prelude.{◌≡◌, ℕ, ◌++◌, List}
+use Rattle.std.specs.Prelude.{ℕ, ◌++◌, List}
 use Prim.Native.Nat.{zero, suc}
 
 -- a relation of what core 0 and core 1 did, read by a core: what it did itself comes first

@@ -4,7 +4,6 @@
 
 mod registers;
 mod sharing;
-
 #[cfg(test)]
 mod tests;
 

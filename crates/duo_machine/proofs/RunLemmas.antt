@@ -1,9 +1,9 @@
 -- Runs from a safe machine: what holds at each machine on the way, and of a core's own registers.
-use Rattle.std.proofs.Common.{◌≡◌, ◌≢◌, ◌==◌, ℕ, zero, suc, ◌+◌, ◌<◌, ◌≤◌, ◌⊎◌, ◌∙◌, ap, subst, sym, inl, inr, Bool, true, false, List, [], ◌∷◌, ◌++◌, Option, Some, None, arith, rules, refl}
-use Rattle.std.specs.Prelude.{if◌then◌else◌, IsSome, IsNone, unwrap_or}
+use Rattle.std.proofs.Common.{◌≡◌, ◌==◌, ℕ, zero, suc, ◌+◌, ◌<◌, ◌∙◌, ap, subst, sym, inl, inr, Bool, true, false, List, [], ◌∷◌, ◌++◌, Option, Some, None, arith, refl}
+use Rattle.std.specs.Prelude.{if◌then◌else◌, IsNone, unwrap_or}
 use Rattle.core_state.specs.declared.registers.Regs.{Regs}
 use Rattle.core_state.specs.declared.registers.Record.{Record}
-use Rattle.core_state.specs.Registers.{masked, own_registers, saved_and_masked}
+use Rattle.core_state.specs.Registers.{masked, own_registers}
 use Rattle.image_layout.specs.declared.address_space.Space.{Space}
 use Rattle.duo_machine.specs.declared.machine.Gate.{Gate}
 use Rattle.duo_machine.specs.declared.machine.Phase.{Phase}
@@ -36,9 +36,9 @@ fetch_is_idle m (suc (suc c)) space small safe can = absurd (omega arith)
 pub steps_run_masked : (m : Machine) → Safe m → StepsRunMasked m
 steps_run_masked m safe runs =
     elim safe.zero_safe.step_fits.of_a_core [
-      inl none ↦ absurd (grind arith)
-    | inr (inl first) ↦ each (both_masked refl safe.zero_safe safe.one_safe first)
-    | inr (inr second) ↦ let both = both_masked refl safe.one_safe safe.zero_safe second in each (both.1, both.0)
+      | inl none ↦ absurd (grind arith)
+      | inr (inl first) ↦ each (both_masked refl safe.zero_safe safe.one_safe first)
+      | inr (inr second) ↦ let both = both_masked refl safe.one_safe safe.zero_safe second in each (both.1, both.0)
     ]
   where
     each : ((record_of m 0).regs ≡ masked) × ((record_of m 1).regs ≡ masked) → (c : ℕ) → c < 2 → (record_of m c).regs ≡ masked
@@ -137,6 +137,15 @@ way_fetches m events there safe cores can way =
     let at_front = front_safe m events way.front (fetch ∷ way.rest) way.split safe cores can in
     ap (λ s. s.running) way.reached ∙ fetch_is_idle (after_all m way.front) way.core way.space small at_front allowed
 
+-- from a safe machine, where a core has nothing saved on the way, its own registers are in force
+way_in_force : (m : Machine) (events : List Event) (there : Machine) (way : Passes m events there) (d : ℕ) → Safe m → AreOfTwoCores events → CanRun m events → d < 2 → HasNoneSaved there d → (record_of there d).regs ≡ last_set d way.front (own_registers (record_of m d))
+way_in_force m events there way d safe cores can small none =
+    let front_cores = (cores_split way.front way.rest (subst AreOfTwoCores way.split cores)).0 in
+    let front_can = (run_split m way.front way.rest (subst (CanRun m) way.split can)).0 in
+    none_saved (record_of there d) none
+    ∙ ap (λ s. own_registers (record_of s d)) way.reached
+    ∙ run_keeps_own m way.front d small safe front_cores front_can
+
 -- every run from a safe machine is a safe run
 pub safe_run : (m : Machine) (events : List Event) → Safe m → AreOfTwoCores events → CanRun m events → IsSafeRun m events
 safe_run m events safe cores can = record {
@@ -144,5 +153,5 @@ safe_run m events safe cores can = record {
   no_fetch_meets_a_step = λ there way. way_fetches m events there safe cores can way;
   masked_while_a_step_runs = λ there way. steps_run_masked there (way_safe m events there safe cores can way);
   keeps_own = λ d small. run_keeps_own m events d small safe cores can;
-  own_in_force = λ d small none. none_saved (record_of (after_all m events) d) none ∙ run_keeps_own m events d small safe cores can;
+  own_in_force = λ there way d small none. way_in_force m events there way d safe cores can small none;
 }

@@ -1,5 +1,5 @@
 -- Each event keeps a machine safe.
-use Rattle.std.proofs.Common.{◌≡◌, ◌≢◌, ℕ, zero, suc, ◌+◌, ◌<◌, ◌≤◌, ◌⊎◌, inl, inr, List, [], ◌∷◌, length, Option, Some, None, arith, rules, refl}
+use Rattle.std.proofs.Common.{◌≡◌, ℕ, zero, suc, ◌<◌, List, [], ◌∷◌, length, Option, arith, refl}
 use Rattle.core_state.specs.declared.registers.Record.{Record}
 use Rattle.duo_machine.specs.declared.machine.Gate.{Gate}
 use Rattle.duo_machine.specs.declared.machine.Phase.{Phase}
@@ -8,7 +8,7 @@ use Rattle.duo_machine.specs.declared.events.Kind.{Kind}
 use Rattle.duo_machine.specs.declared.events.Kind.TheVariants.{Start, Rest, Take, Give, Save, Back, Hold, Ask, Park, See, Begin, Done, End, Leave, Set, Fetch}
 use Rattle.duo_machine.specs.declared.events.Event.{Event}
 use Rattle.duo_machine.specs.Machine.{HasTwoCores}
-use Rattle.duo_machine.specs.Safe.{SafeAt, SafeFor, Safe}
+use Rattle.duo_machine.specs.Safe.{SafeAt, Safe}
 use Rattle.duo_machine.specs.Table.{Allows, changed, CanHappen, after}
 use Rattle.duo_machine.proofs.OwnSide.{start-own, rest-own, take-own, give-own, save-own, back-own, ask-own, hold-own, see-own, park-own, begin-own, done-own, end-own, leave-own, set-own}
 use Rattle.duo_machine.proofs.OtherSide.{start-other, rest-other, take-other, give-other, ask-other, hold-other, see-other, park-other, begin-other, done-other, end-other, leave-other}

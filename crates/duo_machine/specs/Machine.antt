@@ -1,5 +1,5 @@
 -- The state of the two-core machine: what one core has of it, and the machine with that changed.
-use Rattle.std.specs.Prelude.{◌≡◌, ℕ, ◌-◌, ◌⊎◌, List, [], ◌∷◌, length, Option, None, slice_index_or, slice_set}
+use Rattle.std.specs.Prelude.{◌≡◌, ℕ, ◌-◌, ◌⊎◌, [], ◌∷◌, length, None, slice_index_or, slice_set}
 use Rattle.core_state.specs.declared.registers.Record.{Record}
 use Rattle.core_state.specs.Registers.{starting}
 use Rattle.duo_machine.specs.declared.machine.Gate.{Gate}

@@ -67,5 +67,5 @@ pub record IsSafeRun (m : Machine) (events : List Event) : Type 0 where
   pub masked_while_a_step_runs : (there : Machine) → Passes m events there → StepsRunMasked there
   -- a core's own registers are those of its last Set, or those at the start
   pub keeps_own : (c : ℕ) → c < 2 → own_registers (record_of (after_all m events) c) ≡ last_set c events (own_registers (record_of m c))
-  -- where a core has nothing saved, its own registers are in force
-  pub own_in_force : (c : ℕ) → c < 2 → HasNoneSaved (after_all m events) c → (record_of (after_all m events) c).regs ≡ last_set c events (own_registers (record_of m c))
+  -- where a core has nothing saved, at each machine on the way, these registers are in force
+  pub own_in_force : (there : Machine) (way : Passes m events there) (c : ℕ) → c < 2 → HasNoneSaved there c → (record_of there c).regs ≡ last_set c way.front (own_registers (record_of m c))

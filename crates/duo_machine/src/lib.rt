@@ -4,7 +4,6 @@
 mod events;
 mod machine;
 mod moves;
-
 #[cfg(test)]
 mod tests;
 

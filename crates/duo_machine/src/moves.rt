@@ -7,10 +7,9 @@ ghost use Rattle.duo_machine.specs.Safe.{Safe};
 ghost use Rattle.duo_machine.specs.declared.machine.Machine.{Machine};
 ghost use Rattle.duo_machine.specs.declared.events.Event.{Event};
 
+use crate::{Event, Gate, Kind, Machine, Phase};
 use core_state::{restore, save_and_mask};
 use image_layout::Space;
-
-use crate::{Event, Gate, Kind, Machine, Phase};
 
 /// The machine after an event, or `None` where the event's guard does not hold.
 pub fn step(m: &Machine, e: &Event) -> Option<Machine>
@@ -41,12 +40,9 @@ pub fn run(m: &Machine, events: &[Event]) -> Option<Machine>
 /// Whatever two cores do, in whatever order, a run that begins safe stays safe: no fetch meets a step,
 /// a step runs with both cores masked, and each core keeps its own registers.
 pub fn every_run_is_safe()
-    ensures {
-        (m : Machine) (events : List Event) →
-        Safe m → AreOfTwoCores events → CanRun m events → IsSafeRun m events
-    }
-{
-}
+    ensures { (m : Machine) (events : List Event) →
+        Safe m → AreOfTwoCores events → CanRun m events → IsSafeRun m events }
+{}
 
 fn allows(m: &Machine, e: &Event) -> bool
     requires { e.now.core < 2 }
@@ -113,7 +109,9 @@ fn changed(m: &Machine, e: &Event) -> Machine
         Kind::Park => m.with_gate(c, Gate::Parked).with_phase(c, Phase::Parked),
         Kind::Begin => m.with_running(Some(e.core)),
         Kind::Done => m.with_running(None),
-        Kind::End => m.with_gate(o, m.gates[o].let_go()).with_phase(c, Phase::Owning),
+        Kind::End => m
+            .with_gate(o, m.gates[o].let_go())
+            .with_phase(c, Phase::Owning),
         Kind::Set(regs) => {
             own.regs = regs;
             m.with_record(c, own)

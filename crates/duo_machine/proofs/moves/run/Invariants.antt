@@ -1,4 +1,4 @@
-use Rattle.std.proofs.Common.{◌≡◌, ◌↔◌, List, drop}
+use Rattle.std.proofs.Common.{◌≡◌, ◌↔◌, drop}
 use Rattle.duo_machine.specs.Runs.{AreOfTwoCores, CanRun, after_all}
 use Rattle.duo_machine.proofs.moves.run.Given as goal
 
