@@ -42,7 +42,7 @@ pub record GateHasReason (gate : Gate) (other_phase : Phase) : Type 0 where
   pub parked : gate ≡ AtParked → (other_phase ≡ Asking) ⊎ (other_phase ≡ Quiet)
   -- a core is held only while the other one is quiet
   pub held : gate ≡ Held → other_phase ≡ Quiet
-  -- a core is freed only while the other one is outside, or inside with no wish
+  -- a core is freed only while the other one rests, runs, or owns the lock and asks for nothing yet
   pub freed : gate ≡ Freed → (other_phase ≡ Resting) ⊎ (other_phase ≡ Running) ⊎ (other_phase ≡ Owning)
   -- while the other core is quiet, this one is parked or held
   pub quiet : other_phase ≡ Quiet → (gate ≡ AtParked) ⊎ (gate ≡ Held)
