@@ -9,7 +9,9 @@ in_order R (suc c) mine theirs = R theirs mine
 
 -- what the old value stands for, the new one stands for once these items are added to what a core did,
 -- wherever the base has room for them
-abbrev pub GoesOn : {V B D : Type 0} → (V → B → List D → List D → Type 0) → (B → ℕ → List D → Type 0) → V → V → ℕ → List D → Type 0
+abbrev pub GoesOn :
+    {V B D : Type 0} → (V → B → List D → List D → Type 0) → (B → ℕ → List D → Type 0) →
+    V → V → ℕ → List D → Type 0
 GoesOn {V} {B} {D} stands room old new c items =
     (b : B) (mine theirs : List D) →
     in_order (stands old b) c mine theirs →

@@ -1,5 +1,5 @@
 //! A sum that both cores add to, read through its bound.
-ghost use Rattle.std.specs.Prelude.{◌≡◌, ℕ, ◌+◌, ◌<◌, ◌^◌, [], ◌∷◌, sum, Option, None, List};
+ghost use Rattle.std.specs.Prelude.{◌≡◌, ℕ, ◌+◌, ◌<◌, ◌^◌, [], ◌∷◌, sum, None, ⊤};
 ghost use Rattle.core_state.specs.Registers.{starting};
 ghost use Rattle.core_state.specs.Sharing.{GoesOn};
 
@@ -22,7 +22,7 @@ impl Records for Tally {
 
     ghost stands = { λ t b left right. t.total ≡ b + sum left + sum right };
 
-    fn record(&self, _core: u8) -> Record {
+    fn record(&self, _of: u8) -> Record {
         Record::starting()
     }
 
@@ -31,10 +31,10 @@ impl Records for Tally {
     }
 }
 
-fn add(t: &mut Tally, _core: u8, amount: u64)
-    requires core { _core < 2 }
+fn add(t: &mut Tally, _of: u8, amount: u64)
+    requires core { _of < 2 }
     requires room { t.old.total + amount < 2 ^ 64 }
-    ensures { GoesOn ⟦<Tally as Records>⟧.stands (λ b c items. Unit {0}) t.old t.new _core (amount ∷ []) }
+    ensures { GoesOn ⟦<Tally as Records>⟧.stands (λ b c items. ⊤) t.old t.new _of (amount ∷ []) }
 {
     t.total += amount;
 }

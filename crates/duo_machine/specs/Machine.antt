@@ -1,7 +1,8 @@
 -- The state of the two-core machine: what one core has of it, and the machine with that changed.
 use Rattle.std.specs.Prelude.{◌≡◌, ℕ, ◌-◌, ◌⊎◌, [], ◌∷◌, length, None, slice_index_or, slice_set}
+use Rattle.core_state.specs.declared.registers.Regs.{Regs}
 use Rattle.core_state.specs.declared.registers.Record.{Record}
-use Rattle.core_state.specs.Registers.{starting}
+use Rattle.core_state.specs.Registers.{starting, own_registers}
 use Rattle.duo_machine.specs.declared.machine.Gate.{Gate}
 use Rattle.duo_machine.specs.declared.machine.Gate.TheVariants.{Rest, Run, Asked, Parked, Freed, Held}
 use Rattle.duo_machine.specs.declared.machine.Phase.{Phase}
@@ -23,6 +24,10 @@ phase_of m c = slice_index_or m.phases c Resting
 -- the record of a core: its registers in force, and the saved ones
 abbrev pub record_of : Machine → ℕ → Record
 record_of m c = slice_index_or m.records c starting
+
+-- the registers that are a core's own
+abbrev pub own_of : Machine → ℕ → Regs
+own_of m c = own_registers (record_of m c)
 
 -- the same machine, but for the gate of a core
 abbrev pub with_gate : ℕ → Gate → Machine → Machine

@@ -1,13 +1,13 @@
 -- Runs of the machine: lists of events, the machines on the way, and what a safe run is.
 use Rattle.std.specs.Prelude.{◌≡◌, ◌==◌, ℕ, ◌<◌, List, [], ◌∷◌, ◌++◌, None, IsSome, if◌then◌else◌}
 use Rattle.core_state.specs.declared.registers.Regs.{Regs}
-use Rattle.core_state.specs.Registers.{masked, own_registers}
+use Rattle.core_state.specs.Registers.{masked}
 use Rattle.image_layout.specs.declared.address_space.Space.{Space}
 use Rattle.duo_machine.specs.declared.machine.Machine.{Machine}
 use Rattle.duo_machine.specs.declared.events.Kind.{Kind}
 use Rattle.duo_machine.specs.declared.events.Kind.TheVariants.{Set, Fetch}
 use Rattle.duo_machine.specs.declared.events.Event.{Event}
-use Rattle.duo_machine.specs.Machine.{record_of}
+use Rattle.duo_machine.specs.Machine.{record_of, own_of}
 use Rattle.duo_machine.specs.Table.{CanHappen, after, HasNoneSaved}
 use Rattle.duo_machine.specs.Safe.{Safe}
 
@@ -64,8 +64,12 @@ pub record IsSafeRun (m : Machine) (events : List Event) : Type 0 where
   -- no core fetches while a step runs
   pub no_fetch_meets_a_step : (there : Machine) → Fetches m events there → there.running ≡ None
   -- while a step runs both cores are masked
-  pub masked_while_a_step_runs : (there : Machine) → Passes m events there → StepsRunMasked there
+  pub masked_while_a_step_runs :
+      (there : Machine) → Passes m events there → StepsRunMasked there
   -- a core's own registers are those of its last Set, or those at the start
-  pub keeps_own : (c : ℕ) → c < 2 → own_registers (record_of (after_all m events) c) ≡ last_set c events (own_registers (record_of m c))
+  pub keeps_own :
+      (c : ℕ) → c < 2 → own_of (after_all m events) c ≡ last_set c events (own_of m c)
   -- where a core has nothing saved, at each machine on the way, these registers are in force
-  pub own_in_force : (there : Machine) (way : Passes m events there) (c : ℕ) → c < 2 → HasNoneSaved there c → (record_of there c).regs ≡ last_set c way.front (own_registers (record_of m c))
+  pub own_in_force :
+      (there : Machine) (way : Passes m events there) (c : ℕ) → c < 2 → HasNoneSaved there c →
+      (record_of there c).regs ≡ last_set c way.front (own_of m c)

@@ -43,7 +43,8 @@ pub record GateHasReason (gate : Gate) (other_phase : Phase) : Type 0 where
   -- a core is held only while the other one is quiet
   pub held : gate ≡ Held → other_phase ≡ Quiet
   -- a core is freed only while the other one rests, runs, or owns the lock and asks for nothing yet
-  pub freed : gate ≡ Freed → (other_phase ≡ Resting) ⊎ (other_phase ≡ Running) ⊎ (other_phase ≡ Owning)
+  pub freed :
+      gate ≡ Freed → (other_phase ≡ Resting) ⊎ (other_phase ≡ Running) ⊎ (other_phase ≡ Owning)
   -- while the other core is quiet, this one is parked or held
   pub quiet : other_phase ≡ Quiet → (gate ≡ AtParked) ⊎ (gate ≡ Held)
   -- while the other core is asking, this one is asked or parked
@@ -67,7 +68,9 @@ pub record RegistersFit (phase : Phase) (registers : Record) : Type 0 where
 
 -- what a safe machine is for one core: its number, the lock, its gate, its phase, the phase of the other
 -- core, its record and the running step
-pub record SafeAt (c lock : ℕ) (gate : Gate) (phase other_phase : Phase) (registers : Record) (running : Option ℕ) : Type 0 where
+pub record SafeAt
+    (c lock : ℕ) (gate : Gate) (phase other_phase : Phase) (registers : Record) (running : Option ℕ)
+    : Type 0 where
   -- the lock is the core's exactly while the core is inside
   pub lock_fits : LockFits c lock phase
   -- the core's gate tells what the core is doing
@@ -81,7 +84,8 @@ pub record SafeAt (c lock : ℕ) (gate : Gate) (phase other_phase : Phase) (regi
 
 -- what a machine is for one of its cores
 abbrev pub SafeFor : Machine → ℕ → Type 0
-SafeFor m c = SafeAt c m.lock (gate_of m c) (phase_of m c) (phase_of m (other c)) (record_of m c) m.running
+SafeFor m c =
+    SafeAt c m.lock (gate_of m c) (phase_of m c) (phase_of m (other c)) (record_of m c) m.running
 
 -- the machine is safe for both of its cores
 pub record Safe (m : Machine) : Type 0 where

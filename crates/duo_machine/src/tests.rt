@@ -60,6 +60,26 @@ const ONE_HELD: Machine = Machine {
     running: None,
 };
 
+/// Each kind once, with a mask and a space that some machines refuse.
+const KINDS: [Kind; 16] = [
+    Kind::Start,
+    Kind::Rest,
+    Kind::Take,
+    Kind::Give,
+    Kind::Save,
+    Kind::Back,
+    Kind::Hold,
+    Kind::Ask,
+    Kind::Park,
+    Kind::See,
+    Kind::Begin,
+    Kind::Done,
+    Kind::End,
+    Kind::Leave,
+    Kind::Set(Regs { mask: 2, irq: 5 }),
+    Kind::Fetch(Space::Code),
+];
+
 fn are_of_two_cores(events: &[Event]) -> bool
     ensures { IsTrue result → AreOfTwoCores events.now }
 {
@@ -110,25 +130,6 @@ fn rows(rt: HostRuntime) -> Result<(), Fail> {
     }
     Ok(())
 }
-
-const KINDS: [Kind; 16] = [
-    Kind::Start,
-    Kind::Rest,
-    Kind::Take,
-    Kind::Give,
-    Kind::Save,
-    Kind::Back,
-    Kind::Hold,
-    Kind::Ask,
-    Kind::Park,
-    Kind::See,
-    Kind::Begin,
-    Kind::Done,
-    Kind::End,
-    Kind::Leave,
-    Kind::Set(Regs { mask: 2, irq: 5 }),
-    Kind::Fetch(Space::Code),
-];
 
 #[test]
 fn each_kind_is_met_with_its_guard_and_without(rt: HostRuntime) {
