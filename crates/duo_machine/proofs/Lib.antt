@@ -1,0 +1,4 @@
+pub mod OwnSide
+pub mod OtherSide
+pub mod StepKeeps
+pub mod RunLemmas

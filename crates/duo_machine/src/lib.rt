@@ -1,0 +1,12 @@
+//! The parking protocol of two cores as a pure state machine, safe over every list of events.
+#![tactic(auto)]
+
+mod events;
+mod machine;
+mod moves;
+#[cfg(test)]
+mod tests;
+
+pub use events::{Event, Kind};
+pub use machine::{Gate, Machine, Phase, first};
+pub use moves::{every_run_is_safe, run, step};

@@ -1,0 +1,5 @@
+pub mod Command
+pub mod Choose
+pub mod Text
+pub mod Status
+pub mod Report

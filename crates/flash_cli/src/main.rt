@@ -1,0 +1,40 @@
+//! The program `flash_cli`: what the flash of a dual-core ESP32 holds, and what its bootloader makes of it.
+#![tactic(auto)]
+
+mod choose;
+mod command;
+mod files;
+mod flash;
+mod refusal;
+mod status;
+mod stop;
+#[cfg(test)]
+mod tests;
+mod text;
+mod top;
+
+use crate::status::Status;
+use crate::top::plain;
+use pipe_ends::{DirStore, StdSink};
+use std::env;
+use std::io::{self, ErrorKind};
+use std::process::ExitCode;
+
+/// The words behind the program's name.
+fn words(rt: &HostRuntime) -> io::Result<Vec<String>> {
+    Ok(env::args(rt)?.skip(1).collect::<Vec<String>>(rt.alloc())?)
+}
+
+fn main(rt: HostRuntime) -> ExitCode {
+    let words = match words(&rt) {
+        Ok(words) => words,
+        Err(refused) if refused.kind() == ErrorKind::OutOfMemory => {
+            return ExitCode::from(Status::Memory.code());
+        }
+        // A word that is not UTF-8 is part of no command, and neither is no word.
+        Err(_) => Vec::new(rt.alloc()),
+    };
+    let mut store = DirStore::new(&rt);
+    let mut sink = StdSink::new(&rt);
+    ExitCode::from(plain(rt.alloc(), &words, &mut store, &mut sink).code())
+}

@@ -1,0 +1,231 @@
+//! Rows from outside: the status and the text of the program on words, a flash, and failing ends.
+
+use crate::refusal::Refusal;
+use crate::status::Status;
+use crate::top::plain;
+use otadata::state::{ABORTED, INVALID, NEW, PENDING_VERIFY, UNDEFINED, VALID};
+use partition_table::TableBad;
+use pipe_ends::{File, MemSink, MemStore};
+use std::alloc::{AllocError, Global};
+use std::test::Fail;
+
+/// Type, subtype, offset and size of the partitions of a flash of 4 MiB with two update slots.
+const PARTITIONS: [(u8, u8, u32, u32); 6] = [
+    (1, 0x02, 0x9000, 0x4000),
+    (1, 0x00, 0xD000, 0x2000),
+    (1, 0x01, 0xF000, 0x1000),
+    (0, 0x00, 0x10000, 0x100000),
+    (0, 0x10, 0x110000, 0x100000),
+    (0, 0x11, 0x210000, 0x100000),
+];
+
+/// Sequence, state and CRC of an entry.
+type Numbers = (u32, u32, u32);
+
+/// The numbers that an erased sector reads as.
+const ERASED: Numbers = (0xFFFF_FFFF, UNDEFINED, 0xFFFF_FFFF);
+/// The numbers of valid entries, with CRCs from outside.
+const FIRST: Numbers = (1, VALID, 0x4743989A);
+
+const SECOND: Numbers = (2, VALID, 0x55F63774);
+
+const THIRD: Numbers = (3, VALID, 0xED4A5011);
+
+/// No byte of the flash is changed.
+const UNCHANGED: (usize, u8) = (usize::MAX, 0);
+
+const USAGE: &str = "usage: flash_cli choose\n";
+
+const BLANK_LINES: &str = "entry 0 seq 4294967295 state UNDEFINED invalid
+entry 1 seq 4294967295 state UNDEFINED invalid
+names factory
+";
+
+/// A call of the program on a store with the one file F0, a flash of this size.
+#[derive(Clone, Copy)]
+struct Row<'a> {
+    why: &'a str,
+    words: &'a [&'a str],
+    size: usize,
+    entries: [Numbers; 2],
+    change: (usize, u8),
+    failing_gets: &'a [u64],
+    failing_pushes: &'a [u64],
+    status: Status,
+    text: &'a str,
+}
+
+/// The row of a flash of 4 MiB with these entries, whose ends don't fail.
+fn done<'a>(why: &'a str, entries: [Numbers; 2], text: &'a str) -> Row<'a> {
+    Row {
+        why,
+        words: &["choose", "F0"],
+        size: 0x400000,
+        entries,
+        change: UNCHANGED,
+        failing_gets: &[],
+        failing_pushes: &[],
+        status: Status::Done,
+        text,
+    }
+}
+
+/// The row of words on a blank flash.
+fn worded<'a>(words: &'a [&'a str], status: Status, text: &'a str) -> Row<'a> {
+    Row {
+        why: "words",
+        words,
+        size: 0x400000,
+        entries: [ERASED, ERASED],
+        change: UNCHANGED,
+        failing_gets: &[],
+        failing_pushes: &[],
+        status,
+        text,
+    }
+}
+
+/// Writes bytes at a place, as far as the flash has it.
+fn write(flash: &mut [u8], at: usize, bytes: &[u8]) {
+    if at <= flash.len() && bytes.len() <= flash.len() - at {
+        flash[at..at + bytes.len()].copy_from_slice(bytes);
+    }
+}
+
+/// The flash of a row.
+fn flash_of(alloc: Global, row: &Row<'_>) -> Result<Vec<u8>, AllocError> {
+    let mut flash = vec![in alloc; 0xFFu8; row.size]?;
+    for (i, (kind, subtype, offset, size)) in PARTITIONS.iter().enumerate() {
+        let at = 0x8000 + 32 * i;
+        write(&mut flash, at, &[0; 32]);
+        write(&mut flash, at, &[0xAA, 0x50, *kind, *subtype]);
+        write(&mut flash, at + 4, &offset.to_le_bytes());
+        write(&mut flash, at + 8, &size.to_le_bytes());
+    }
+    write(&mut flash, 0x80C0, &[0xEB, 0xEB]);
+    for (i, (seq, state, crc)) in row.entries.iter().enumerate() {
+        let at = 0xD000 + 0x1000 * i;
+        write(&mut flash, at, &seq.to_le_bytes());
+        write(&mut flash, at + 24, &state.to_le_bytes());
+        write(&mut flash, at + 28, &crc.to_le_bytes());
+    }
+    write(&mut flash, row.change.0, &[row.change.1]);
+    Ok(flash)
+}
+
+/// Words on the heap.
+fn words_of(alloc: Global, words: &[&str]) -> Result<Vec<String>, AllocError> {
+    let mut all = Vec::new(alloc);
+    for word in words {
+        all.push(String::from_str(alloc, word)?)?;
+    }
+    Ok(all)
+}
+
+/// The status of a row's call, and what it pushed.
+fn answer(alloc: Global, row: &Row<'_>) -> Result<(Status, MemSink), AllocError> {
+    let file = File {
+        name: String::from_str(alloc, "F0")?,
+        bytes: flash_of(alloc, row)?,
+    };
+    let mut files = Vec::new(alloc);
+    files.push(file)?;
+    let mut store = MemStore::new(files, Vec::from_slice(alloc, row.failing_gets)?);
+    let mut sink = MemSink::new(alloc, Vec::from_slice(alloc, row.failing_pushes)?);
+    let words = words_of(alloc, row.words)?;
+    let status = plain(alloc, &words, &mut store, &mut sink);
+    Ok((status, sink))
+}
+
+/// The rows.
+fn rows<'a>() -> [Row<'a>; 18] {
+    let later = Status::Refused(Refusal::Table(TableBad::Later));
+    let absent = Status::Refused(Refusal::Absent { file: 0 });
+    let short = Status::Refused(Refusal::FlashSize { size: 3 });
+    [
+        done("blank OTA data", [ERASED, ERASED], BLANK_LINES),
+        done(
+            "the greater sequence is active",
+            [SECOND, THIRD],
+            "entry 0 seq 2 state VALID valid\nentry 1 seq 3 state VALID valid\nnames ota_0\n",
+        ),
+        done(
+            "a tie",
+            [SECOND, SECOND],
+            "entry 0 seq 2 state VALID valid\nentry 1 seq 2 state VALID valid\nnames ota_1\n",
+        ),
+        done(
+            "sequence 0, whose CRC matches",
+            [(0, VALID, 0xFFFF_FFFF), ERASED],
+            "entry 0 seq 0 state VALID invalid\n\
+             entry 1 seq 4294967295 state UNDEFINED invalid\nnames factory\n",
+        ),
+        done(
+            "a rejected entry, and one that waits",
+            [(3, INVALID, THIRD.2), (2, PENDING_VERIFY, SECOND.2)],
+            "entry 0 seq 3 state INVALID invalid\nentry 1 seq 2 state PENDING_VERIFY valid\nnames ota_1\n",
+        ),
+        done(
+            "a new entry, and one given up",
+            [(1, NEW, FIRST.2), (2, ABORTED, SECOND.2)],
+            "entry 0 seq 1 state NEW valid\nentry 1 seq 2 state ABORTED invalid\nnames ota_0\n",
+        ),
+        done(
+            "a state without a name, and a CRC that doesn't match",
+            [(1, 0xABCD, FIRST.2), (2, VALID, FIRST.2)],
+            "entry 0 seq 1 state 0000ABCD valid\nentry 1 seq 2 state VALID invalid\nnames ota_0\n",
+        ),
+        Row {
+            change: (0x80A0, 0x00),
+            status: later,
+            ..worded(&["choose", "F0"], later, "refused: table later\n")
+        },
+        Row {
+            size: 3,
+            ..worded(&["choose", "F0"], short, "refused: flash size 3\n")
+        },
+        worded(&["choose", "F1"], absent, "refused: absent F1\n"),
+        worded(&[], Status::Usage, USAGE),
+        worded(&["choose"], Status::Usage, USAGE),
+        worded(&["choose", "F0", "F0"], Status::Usage, USAGE),
+        worded(&["choose", ""], Status::Usage, USAGE),
+        worded(&["choose", "-F0"], Status::Usage, USAGE),
+        worded(&["chose", "F0"], Status::Usage, USAGE),
+        Row {
+            failing_gets: &[1],
+            ..worded(&["choose", "F0"], Status::StoreFault, "")
+        },
+        Row {
+            failing_pushes: &[1],
+            ..worded(&["choose", "F0"], Status::SinkFault, "")
+        },
+    ]
+}
+
+#[test]
+fn each_row_has_its_status_and_its_text(rt: HostRuntime) -> Result<(), Fail> {
+    for row in rows() {
+        let (status, sink) = answer(rt.alloc(), &row)?;
+        let why = row.why;
+        assert_eq!(rt; status, row.status, "status: {why}");
+        assert_eq!(rt; sink.bytes(), row.text.as_bytes(), "text: {why}");
+    }
+    Ok(())
+}
+
+/// Whether the answer is the row's, or want of memory.
+fn is_row_or_memory(alloc: Global, row: &Row<'_>) -> bool {
+    match answer(alloc, row) {
+        Ok((status, _sink)) => status == row.status || status == Status::Memory,
+        Err(_) => true,
+    }
+}
+
+#[test]
+fn a_refused_allocation_is_want_of_memory(rt: HostRuntime) {
+    for row in rows() {
+        let holds = is_row_or_memory(rt.alloc(), &row);
+        let why = row.why;
+        assert_eq!(rt; holds, true, "status: {why}");
+    }
+}

@@ -1,0 +1,4 @@
+mod PolynomialLemmas
+mod CrcLemmas
+mod EntryLemmas
+mod ChoiceLemmas

@@ -1,0 +1,3 @@
+-- Lemmas on the words of specs/.
+pub mod FilesLemmas
+pub mod HexLemmas

@@ -1,0 +1,24 @@
+-- A sink in memory: the bytes that it took, and which calls fail.
+use Rattle.std.specs.Prelude.{ℕ, List, ◌++◌, refl}
+use Rattle.std.specs.Coded.{Coded, code_by, coded×, coded_ℕ, coded_list}
+use Rattle.pipe_ends.specs.Calls.{Counts, counts_code, after_call}
+
+-- what a sink in memory has: the bytes pushed so far, and its calls
+pub record Basin : Type 0 where
+  pub bytes : List ℕ
+  pub calls : Counts
+
+-- it is told apart by its two parts
+abbrev pub basin_code : Coded Basin
+basin_code =
+    code_by (List ℕ × Counts) (coded× (coded_list coded_ℕ) counts_code)
+    (λ basin. (basin.bytes, basin.calls))
+    (λ parts. record { bytes = parts.0; calls = parts.1 }) (λ _. refl)
+
+-- one more call came, and the bytes stayed
+abbrev pub refused : Basin → Basin
+refused basin = record { bytes = basin.bytes; calls = after_call basin.calls }
+
+-- one more call came, and its bytes stand behind the others
+abbrev pub poured : Basin → List ℕ → Basin
+poured basin bytes = record { bytes = basin.bytes ++ bytes; calls = after_call basin.calls }

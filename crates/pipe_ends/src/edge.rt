@@ -1,0 +1,103 @@
+//! The trusted edge: files and standard output, of which no contract can tell.
+ghost use Rattle.std.specs.Prelude.{◌≡◌, None};
+
+use crate::fault::{GetFault, PushFault, PutFault};
+use crate::sink::Sink;
+use crate::store::Store;
+use std::alloc::Global;
+use std::fs::OpenFile;
+use std::io::{ErrorKind, Read};
+use std::rt::Files;
+use std::{fs, io};
+
+/// Files of the system, under the current folder where the name is no path from the root. It tells
+/// none of them. No such file is `Absent`, want of memory is `Memory`, and all else is counted.
+#[derive(Drop)]
+pub struct DirStore<'a, R: Files + AllocGlobal> {
+    rt: &'a R,
+    faults: u64,
+}
+
+impl<'a, R: Files + AllocGlobal> DirStore<'a, R> {
+    /// A store over this runtime's files, with no fault yet.
+    pub fn new(rt: &'a R) -> DirStore<'a, R>
+        ensures { ⟦<DirStore<'a, R> as Store>⟧.faults result ≡ 0 }
+    {
+        DirStore { rt, faults: 0 }
+    }
+}
+
+impl<'a, R: Files + AllocGlobal> Store for DirStore<'a, R> {
+    ghost files = { λ _. None };
+
+    ghost faults = { λ store. store.faults };
+
+    fn get(&mut self, alloc: Global, name: &str) -> Result<Vec<u8>, GetFault> {
+        match read_whole(self.rt, alloc, name) {
+            Ok(bytes) => Ok(bytes),
+            Err(refused) => match refused.kind() {
+                ErrorKind::NotFound => Err(GetFault::Absent),
+                ErrorKind::OutOfMemory => Err(GetFault::Memory),
+                _ => {
+                    self.faults = self.faults.saturating_add(1);
+                    Err(GetFault::Failed)
+                }
+            },
+        }
+    }
+
+    fn put(&mut self, _alloc: Global, name: &str, bytes: &[u8]) -> Result<(), PutFault> {
+        match fs::write(self.rt, name, bytes) {
+            Ok(()) => Ok(()),
+            Err(refused) if refused.kind() == ErrorKind::OutOfMemory => Err(PutFault::Memory),
+            Err(_) => {
+                self.faults = self.faults.saturating_add(1);
+                Err(PutFault::Failed)
+            }
+        }
+    }
+}
+
+/// Standard output. It tells none of the bytes. Want of memory is `Memory`, all else is counted.
+#[derive(Drop)]
+pub struct StdSink<'a, R: Print> {
+    rt: &'a R,
+    faults: u64,
+}
+
+impl<'a, R: Print> StdSink<'a, R> {
+    /// A sink over this runtime's standard output, with no fault yet.
+    pub fn new(rt: &'a R) -> StdSink<'a, R>
+        ensures { ⟦<StdSink<'a, R> as Sink>⟧.faults result ≡ 0 }
+    {
+        StdSink { rt, faults: 0 }
+    }
+}
+
+impl<'a, R: Print> Sink for StdSink<'a, R> {
+    ghost pushed = { λ _. None };
+
+    ghost faults = { λ sink. sink.faults };
+
+    fn push(&mut self, _alloc: Global, bytes: &[u8]) -> Result<(), PushFault> {
+        match self.rt.write_all(bytes) {
+            Ok(()) => Ok(()),
+            Err(refused) if refused.kind() == ErrorKind::OutOfMemory => Err(PushFault::Memory),
+            Err(_) => {
+                self.faults = self.faults.saturating_add(1);
+                Err(PushFault::Failed)
+            }
+        }
+    }
+}
+
+// All bytes of a file, read into room that is taken once. A file that grew meanwhile is read to its
+// new end, into more room.
+fn read_whole<R: Files>(rt: &R, alloc: Global, name: &str) -> io::Result<Vec<u8>> {
+    let mut file = fs::open(rt, name)?;
+    let length = file.metadata()?.len();
+    // One byte more than the file has, so that the read that finds the end needs no new room.
+    let mut bytes = Vec::with_capacity(alloc, length.saturating_add(1) as usize)?;
+    file.read_to_end(&mut bytes)?;
+    Ok(bytes)
+}
