@@ -1,7 +1,6 @@
 -- Lemmas on what a command comes to.
 use Rattle.std.proofs.Common.{◌≡◌, ℕ, List, [], ◌∷◌, Option, Some, None, Result, Ok, Err, ap, sym, refl, Vec, Global}
-use Rattle.std.specs.Prelude.{option_map, map}
-use Rattle.std.specs.FinMap.{get}
+use Rattle.std.specs.Prelude.{option_map}
 use Rattle.std.proofs.lemmas.List.{append-nil}
 use Rattle.pipe_ends.specs.Store.{Files}
 use Rattle.pipe_ends.specs.Sink.{TellsSome}
@@ -11,18 +10,20 @@ use Rattle.flash_cli.specs.declared.stop.Halt.TheVariants.{Store, Memory}
 use Rattle.flash_cli.specs.declared.stop.Stop.{Stop}
 use Rattle.flash_cli.specs.declared.stop.Stop.TheVariants.{Refused, Halted}
 use Rattle.flash_cli.specs.Choose.{choice_of}
-use Rattle.flash_cli.specs.Command.{Command, Choose, names_of}
+use Rattle.flash_cli.specs.Command.{Command, Choose}
 use Rattle.flash_cli.specs.Text.{usage_line}
 use Rattle.flash_cli.specs.Report.{FilesRead, AreFrom, Gives, IsDone, IsEnd, IsFileRead, IsPartlyReported, IsResult, outcome, read_from, report, result_of, text_of_choice}
 
 -- what `choose` reads, where its one file was read so
 one_file : (told : Option Files) (name : List ℕ) (file : Option (Vec ℕ Global))
-    → IsFileRead told name file → AreFrom told (Some (Choose name)) (option_map (λ bytes. bytes.items) file ∷ [])
+    → IsFileRead told name file
+    → AreFrom told (Some (Choose name)) (option_map (λ bytes. bytes.items) file ∷ [])
 one_file None name file read = tt
 one_file (Some files) name file read = ap (λ bytes. bytes ∷ []) read
 
 -- the result of `choose` on the file that was read
-pub chosen : (told : Option Files) (name : List ℕ) (file : Option (Vec ℕ Global)) (result : Result (List ℕ) Refusal)
+pub chosen : (told : Option Files) (name : List ℕ) (file : Option (Vec ℕ Global))
+    (result : Result (List ℕ) Refusal)
     → IsFileRead told name file
     → result_of (Choose name) (option_map (λ bytes. bytes.items) file ∷ []) ≡ result
     → IsResult told (Choose name) result
@@ -33,11 +34,14 @@ chosen told name file result read same = record {
 }
 
 -- what came of the text of a flash that was read is the end of `choose`
-pub ended : (told : Option Files) (name : List ℕ) (flash : Vec ℕ Global) (before now : ℕ) (result : Result (Vec ℕ Global) Stop)
+pub ended : (told : Option Files) (name : List ℕ) (flash : Vec ℕ Global) (before now : ℕ)
+    (result : Result (Vec ℕ Global) Stop)
     → IsFileRead told name (Some flash) → Gives result (text_of_choice (choice_of flash.items))
     → IsEnd told (Choose name) before now result
-ended told name flash before now (Ok text) read gives = chosen told name (Some flash) (Ok text.items) read gives
-ended told name flash before now (Err (Refused why)) read gives = chosen told name (Some flash) (Err why) read gives
+ended told name flash before now (Ok text) read gives =
+    chosen told name (Some flash) (Ok text.items) read gives
+ended told name flash before now (Err (Refused why)) read gives =
+    chosen told name (Some flash) (Err why) read gives
 ended told name flash before now (Err (Halted Store)) read gives = absurd gives
 ended told name flash before now (Err (Halted Memory)) read gives = tt
 
@@ -49,11 +53,13 @@ none_read (Some files) = refl
 -- words that are no command come to the usage line
 pub no_command : (told : Option Files) (command : Option Command) (text : List ℕ)
     → command ≡ None → text ≡ usage_line → IsDone told command Usage text
-no_command told None text none same = record { read = []; from = none_read told; ends = refl; tells = same }
+no_command told None text none same =
+    record { read = []; from = none_read told; ends = refl; tells = same }
 no_command told (Some command) text none same = absurd (cc)
 
 -- some files that a command reads, the store's where it tells them
-some_read : (told : Option Files) (command : Option Command) → (read : FilesRead) × AreFrom told command read
+some_read : (told : Option Files) (command : Option Command)
+    → (read : FilesRead) × AreFrom told command read
 some_read None command = ([], tt)
 some_read (Some files) command = (read_from files command, refl)
 

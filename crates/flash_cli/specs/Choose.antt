@@ -15,12 +15,15 @@ use Rattle.flash_cli.specs.declared.refusal.Refusal.TheVariants.{FlashSize, Tabl
 
 -- whether a flash has this size: 1, 2, 4, 8 or 16 MiB
 unfoldable pub is_flash_size : ℕ → Bool
-is_flash_size size = (size == 0x100000) || (size == 0x200000) || (size == 0x400000) || (size == 0x800000) || (size == 0x1000000)
+is_flash_size size =
+    (size == 0x100000) || (size == 0x200000) || (size == 0x400000) || (size == 0x800000)
+    || (size == 0x1000000)
 
 -- the entry of this sector of the OTA data
 abbrev pub entry_in : List ℕ → Places → ℕ → Entry
 entry_in flash layout sector =
-    entry_of (slice_range flash (layout.otadata + SECTOR_SIZE * sector) (layout.otadata + SECTOR_SIZE * sector + 32))
+    let at = layout.otadata + SECTOR_SIZE * sector in
+    entry_of (slice_range flash at (at + 32))
 
 -- what the OTA data of a flash with this layout choose
 unfoldable pub choice_in : List ℕ → Places → Choice
@@ -41,9 +44,12 @@ layout_by (Err why) = Err why
 
 -- the layout of a flash by its table, or why it has none
 unfoldable pub layout_in : List ℕ → Result Places TableBad
-layout_in flash = layout_by (table_of (slice_range flash TABLE_OFFSET (TABLE_OFFSET + TABLE_SIZE)) (length flash))
+layout_in flash =
+    let bytes = slice_range flash TABLE_OFFSET (TABLE_OFFSET + TABLE_SIZE) in
+    layout_by (table_of bytes (length flash))
 
 -- what the OTA data of a flash choose, or the first reason why that can't be told
 unfoldable pub choice_of : List ℕ → Result Choice Refusal
 choice_of flash =
-    if is_flash_size (length flash) then choice_by flash (layout_in flash) else Err (FlashSize (length flash))
+    if is_flash_size (length flash) then choice_by flash (layout_in flash)
+    else Err (FlashSize (length flash))

@@ -23,6 +23,10 @@ command_of (word ∷ flash ∷ []) =
     if bytes_eq word (codes "choose") && is_file_name flash then Some (Choose flash) else None
 command_of _ = None
 
+-- the command that is asked for by these words, where they are one
+abbrev pub asked : List (String Global) → Option Command
+asked words = command_of (words_of words)
+
 -- the names of the files that a command reads, in the order in which it reads them
 abbrev pub names_of : Command → List (List ℕ)
 names_of (Choose flash) = flash ∷ []

@@ -19,7 +19,7 @@ use Rattle.flash_cli.specs.Command.{Command, Choose, names_of}
 use Rattle.flash_cli.specs.Choose.{choice_of}
 use Rattle.flash_cli.specs.Text.{choice_text, refusal_line, usage_line}
 
--- the files that a command read, in the order of its words: the bytes of each, or none where it is absent
+-- the files that a command read, in the order of its words: their bytes, or none where one is absent
 abbrev pub FilesRead : Type 0
 FilesRead = List (Option (List ℕ))
 
@@ -63,13 +63,9 @@ abbrev pub report : Option Command → FilesRead → List ℕ
 report None read = usage_line
 report (Some command) read = text_of command (result_of command read)
 
--- the store counted a fault, and nothing was pushed
-pub record FailedSilently (before now : ℕ) (pushed after : Option (List ℕ)) : Type 0 where
-  pub counted : Rose before now
-  pub silent : after ≡ pushed
-
 -- A command has this result on some files, which are the store's where it tells them.
-pub record IsResult (told : Option Files) (command : Command) (result : Result (List ℕ) Refusal) : Type 0 where
+pub record IsResult (told : Option Files) (command : Command) (result : Result (List ℕ) Refusal)
+    : Type 0 where
   pub read : FilesRead
   pub from : AreFrom told (Some command) read
   pub is : result ≡ result_of command read
@@ -80,8 +76,9 @@ IsUsageOrMemory (Ok done) = done.status ≡ Usage
 IsUsageOrMemory (Err Store) = ⊥
 IsUsageOrMemory (Err Memory) = Unit {0}
 
--- The words come to this status and this text on some files, which are the store's where it tells them.
-pub record IsDone (told : Option Files) (command : Option Command) (status : Status) (text : List ℕ) : Type 0 where
+-- The words come to this status and text on some files, which are the store's where it tells them.
+pub record IsDone (told : Option Files) (command : Option Command) (status : Status) (text : List ℕ)
+    : Type 0 where
   pub read : FilesRead
   pub from : AreFrom told command read
   pub ends : status ≡ outcome command read
@@ -92,13 +89,15 @@ abbrev pub IsOutcomeIn : Option Files → Option Command → Status → Type 0
 IsOutcomeIn told command status = IfSome told (λ files. status ≡ outcome command (read_from files command))
 
 -- The words came to this status, and their whole text was pushed.
-pub record IsReported (told : Option Files) (command : Option Command) (status : Status) (before after : Option (List ℕ)) : Type 0 where
+pub record IsReported (told : Option Files) (command : Option Command) (status : Status)
+    (before after : Option (List ℕ)) : Type 0 where
   pub text : List ℕ
   pub done : IsDone told command status text
   pub pushed : TellsAll before text after
 
 -- The words came to some status, and a part of their text was pushed, which may be none.
-pub record IsPartlyReported (told : Option Files) (command : Option Command) (before after : Option (List ℕ)) : Type 0 where
+pub record IsPartlyReported (told : Option Files) (command : Option Command)
+    (before after : Option (List ℕ)) : Type 0 where
   pub status : Status
   pub text : List ℕ
   pub done : IsDone told command status text
@@ -124,4 +123,5 @@ IsEnd told command before now (Err (Halted halt)) = HasCause before now halt
 
 -- where the files are told, this is what the one of this name holds, or that there is none
 abbrev pub IsFileRead : Option Files → List ℕ → Option (Vec ℕ Global) → Type 0
-IsFileRead told name file = IfSome told (λ files. option_map (λ bytes. bytes.items) file ≡ get files name)
+IsFileRead told name file =
+    IfSome told (λ files. option_map (λ bytes. bytes.items) file ≡ get files name)

@@ -26,8 +26,8 @@ pub(crate) struct Choice {
     pub(crate) app: App,
 }
 
-/// What the OTA data of a flash choose, or the first reason why that can't be told: the size of the flash, then its
-/// partition table.
+/// What the OTA data of a flash choose, or the first reason why that can't be told: the size of the
+/// flash, then its partition table.
 #[tactic(auto, unfolding(crate::specs::Choose::choice_of))]
 pub(crate) fn choose(flash: &[u8]) -> Result<Choice, Refusal>
     ensures { result ≡ choice_of flash.now }

@@ -25,7 +25,7 @@ impl<'a> Command<'a> {
         }
     }
 
-    /// The name of the file with this number, of those that the command reads; of no other file is there a name.
+    /// The name of the file with this number, of those that the command reads; else no name.
     pub(crate) fn name(self, file: u32) -> &'a str
         ensures { result.now ≡ name_at (names_of (shown self.entry)) file }
     {

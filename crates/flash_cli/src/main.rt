@@ -1,4 +1,4 @@
-//! The program `flash_cli`: what the flash of a dual-core ESP32 holds, and what its bootloader makes of it.
+//! The program `flash_cli`: what the flash of a dual-core ESP32 holds, as its bootloader reads it.
 #![tactic(auto)]
 
 mod choose;

@@ -163,7 +163,8 @@ fn rows<'a>() -> [Row<'a>; 18] {
         done(
             "a rejected entry, and one that waits",
             [(3, INVALID, THIRD.2), (2, PENDING_VERIFY, SECOND.2)],
-            "entry 0 seq 3 state INVALID invalid\nentry 1 seq 2 state PENDING_VERIFY valid\nnames ota_1\n",
+            "entry 0 seq 3 state INVALID invalid\n\
+             entry 1 seq 2 state PENDING_VERIFY valid\nnames ota_1\n",
         ),
         done(
             "a new entry, and one given up",

@@ -106,7 +106,8 @@ pub(crate) fn put_refusal(
     command: Command<'_>,
     why: Refusal,
 ) -> Result<(), Memory>
-    ensures { OnOk result (out.new.items ≡ out.old.items ++ refusal_line (names_of (shown command.entry)) why) }
+    ensures { OnOk result (out.new.items
+        ≡ out.old.items ++ refusal_line (names_of (shown command.entry)) why) }
 {
     put_text(out, "refused: ")?;
     match why {

@@ -2,9 +2,9 @@
 
 ghost use Rattle.std.specs.Prelude.{◌≡◌, None, IfOk, IfErr};
 ghost use Rattle.pipe_ends.specs.Fault.{Rose};
-ghost use Rattle.flash_cli.specs.Command.{command_of, words_of, shown};
+ghost use Rattle.flash_cli.specs.Command.{asked, shown};
 ghost use Rattle.flash_cli.specs.Status.{IsWork, IsCutShort, IsWorkOrMemory, IsUsageOrCutShort, IsDevices};
-ghost use Rattle.flash_cli.specs.Report.{HasCause, FailedSilently, IsEnd, IsDone, IsUsageOrMemory, IsOutcomeIn, IsReported, IsPartlyReported};
+ghost use Rattle.flash_cli.specs.Report.{HasCause, IsEnd, IsDone, IsUsageOrMemory, IsOutcomeIn, IsReported, IsPartlyReported};
 
 use crate::choose::run_choose;
 use crate::command::Command;
@@ -14,11 +14,13 @@ use crate::text::{USAGE, put_refusal, put_text};
 use pipe_ends::{PushFault, Sink, Store};
 use std::alloc::Global;
 
-/// Carries out the command that the words are: reads its files from the store, and pushes its whole text in one call
-/// at the end. Words that are no command push the line that says how the program is called.
+/// Carries out the command that the words are: reads its files from the store, and pushes its whole
+/// text in one call at the end. Words that are no command push the line that says how the program is
+/// called.
 ///
-/// `choose FLASH` prints both entries of the flash's OTA data and the application that they name. It is refused where
-/// the store has no such file, where the file isn't as long as a flash, and where the flash has no partition table.
+/// `choose FLASH` prints both entries of the flash's OTA data and the application that they name. It
+/// is refused where the store has no such file, where the file isn't as long as a flash, and where the
+/// flash has no partition table.
 pub(crate) fn plain<S: Store, K: Sink>(
     alloc: Global,
     words: &[String],
@@ -26,19 +28,20 @@ pub(crate) fn plain<S: Store, K: Sink>(
     out: &mut K,
 ) -> Status
     // Words that are no command are a matter of usage, and nothing else is.
-    ensures usage { result ≡ Status.Usage → command_of (words_of words.now) ≡ None }
-    ensures no_command { command_of (words_of words.now) ≡ None → IsUsageOrCutShort result }
+    ensures usage { result ≡ Status.Usage → asked words.now ≡ None }
+    ensures no_command { asked words.now ≡ None → IsUsageOrCutShort result }
 
-    // Status and text are those of the command on the files that it read; a store that tells its files decides both.
-    ensures work { IsWork result → IsReported (S.files store.old) (command_of (words_of words.now)) result
-        (K.pushed out.old) (K.pushed out.new) }
-    ensures told { IsWork result → IsOutcomeIn (S.files store.old) (command_of (words_of words.now)) result }
-    ensures cut_short { IsCutShort result → IsPartlyReported (S.files store.old)
-        (command_of (words_of words.now)) (K.pushed out.old) (K.pushed out.new) }
+    // Status and text are those of the command on the files that it read, the store's where it tells
+    // them.
+    ensures work { IsWork result
+        → IsReported (S.files store.old) (asked words.now) result (K.pushed out.old) (K.pushed out.new) }
+    ensures told { IsWork result → IsOutcomeIn (S.files store.old) (asked words.now) result }
+    ensures cut_short { IsCutShort result
+        → IsPartlyReported (S.files store.old) (asked words.now) (K.pushed out.old) (K.pushed out.new) }
 
     // A fault has its cause: without one the work's status is the answer, want of memory aside.
-    ensures store_fault { result ≡ Status.StoreFault → FailedSilently (S.faults store.old) (S.faults store.new)
-        (K.pushed out.old) (K.pushed out.new) }
+    ensures store_fault { result ≡ Status.StoreFault → Rose (S.faults store.old) (S.faults store.new) }
+    ensures silent { result ≡ Status.StoreFault → K.pushed out.new ≡ K.pushed out.old }
     ensures sink_fault { result ≡ Status.SinkFault → Rose (K.faults out.old) (K.faults out.new) }
     ensures faultless { ¬ Rose (S.faults store.old) (S.faults store.new)
         → ¬ Rose (K.faults out.old) (K.faults out.new) → IsWorkOrMemory result }
@@ -67,9 +70,9 @@ struct Finished {
 
 /// Does the work of the words, but for the push.
 fn work<S: Store>(alloc: Global, words: &[String], store: &mut S) -> Result<Finished, Halt>
-    ensures done { IfOk result (λ done. IsDone (S.files store.old) (command_of (words_of words.now))
-        done.status done.text.items) }
-    ensures no_command { command_of (words_of words.now) ≡ None → IsUsageOrMemory result }
+    ensures done { IfOk result
+        (λ done. IsDone (S.files store.old) (asked words.now) done.status done.text.items) }
+    ensures no_command { asked words.now ≡ None → IsUsageOrMemory result }
     ensures cause { IfErr result (HasCause (S.faults store.old) (S.faults store.new)) }
     ensures files { S.files store.new ≡ S.files store.old }
 {

@@ -2,7 +2,7 @@
 use Rattle.std.specs.Prelude.{ℕ, List, Option}
 use Rattle.partition_table.specs.declared.row.Row.{Row}
 
--- the places of the OTA data, the factory application, the update slots in order, and the test application
+-- the places of the OTA data, the factory application, the slots in order, and the test application
 pub record Places : Type 0 where
   pub otadata : ℕ
   pub factory : Row

@@ -1,4 +1,4 @@
--- A partition table with a factory application and two update slots, the one form that is read so far.
+-- A partition table with a factory application and two update slots, the one form read so far.
 use Rattle.std.specs.Prelude.{◌≤◌, ℕ, zero, suc, ◌+◌, ◌*◌, Bool, List, [], ◌∷◌, ◌++◌, drop, None, Result, Ok, Err, ◌==◌, ◌&&◌, nat_le, if◌then◌else◌, slice_index}
 use Rattle.partition_table.specs.declared.row.Row.{Row}
 use Rattle.partition_table.specs.declared.row.TheConstants.{ROW_SIZE, TYPE_APP, TYPE_DATA, APP_FACTORY, APP_OTA_0, APP_OTA_1, DATA_OTA, DATA_PHY, DATA_NVS}
@@ -39,7 +39,7 @@ has_app_rows table =
     && is_row TYPE_APP APP_OTA_0 (from_row table 4)
     && is_row TYPE_APP APP_OTA_1 (from_row table 5)
 
--- whether these six rows stand there, the digest's row follows, and the OTA data lie in a flash of this size
+-- whether these six rows stand there, the digest's row follows, and the flash holds the OTA data
 unfoldable pub is_two_slot_table : List ℕ → ℕ → Bool
 is_two_slot_table table flash =
     has_data_rows table && has_app_rows table && is_end (from_row table ROWS)
@@ -47,11 +47,13 @@ is_two_slot_table table flash =
 
 -- the rows that the bytes of a table are, in a flash of this size, or why they are no table
 unfoldable pub table_of : List ℕ → ℕ → Result (List Row) TableBad
-table_of table flash = if is_two_slot_table table flash then Ok (first_rows table ROWS) else Err Later
+table_of table flash =
+    if is_two_slot_table table flash then Ok (first_rows table ROWS) else Err Later
 
 -- the rows are six, and the second lies in a flash of this size as two sectors of OTA data
 abbrev pub FitsFlash : ℕ → List Row → Type 0
-FitsFlash flash (nvs ∷ otadata ∷ phy ∷ factory ∷ first ∷ second ∷ []) = otadata.offset + OTADATA_SIZE ≤ flash
+FitsFlash flash (nvs ∷ otadata ∷ phy ∷ factory ∷ first ∷ second ∷ []) =
+    otadata.offset + OTADATA_SIZE ≤ flash
 FitsFlash flash _ = ⊥
 
 -- where a bootloader finds its parts by the rows of a table, or why it can't

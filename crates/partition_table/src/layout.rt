@@ -26,17 +26,32 @@ impl Model for Layout {
 
     ghost Value = { Places };
 
-    ghost view = { λ l. record { otadata = l.otadata; factory = l.factory; slots = l.slots.items; test = l.test } };
+    ghost view = { λ l. record {
+      otadata = l.otadata;
+      factory = l.factory;
+      slots = l.slots.items;
+      test = l.test;
+    } };
 
     ghost invariant = { λ l. (0 < length l.slots.items) × (length l.slots.items ≤ 16) };
 
-    ghost inverse = { λ p. record { otadata = p.otadata; factory = p.factory; slots = record { items = p.slots }; test = p.test } };
+    ghost inverse = { λ p. record {
+      otadata = p.otadata;
+      factory = p.factory;
+      slots = record { items = p.slots };
+      test = p.test;
+    } };
 }
 
 impl Layout {
     /// A layout with a factory application and two update slots.
     pub(crate) fn two_slots(otadata: u32, factory: Row, first: Row, second: Row) -> Layout
-        ensures { result ≡ record { otadata = otadata; factory = factory; slots = first ∷ second ∷ []; test = None } }
+        ensures { result ≡ record {
+          otadata = otadata;
+          factory = factory;
+          slots = first ∷ second ∷ [];
+          test = None;
+        } }
     {
         let mut slots = ArrayVec::new();
         slots.push(first);

@@ -1,7 +1,7 @@
-//! The table that stands at 0x8000 of a flash: rows of 32 bytes, and behind them the row of their digest.
+//! The table that stands at 0x8000 of a flash: rows of 32 bytes, and behind them that of their digest.
 //!
-//! So far one form is read, a factory application and two update slots: the rows nvs, otadata, phy_init, factory,
-//! ota_0 and ota_1, in this order. The digest is not compared.
+//! So far one form is read, a factory application and two update slots: the rows nvs, otadata,
+//! phy_init, factory, ota_0 and ota_1, in this order. The digest is not compared.
 
 ghost use Rattle.std.specs.Prelude.{◌≡◌, ◌≤◌, ◌+◌, ◌*◌, ℕ, List, length, IfOk, IsOk, IsTrue};
 ghost use Rattle.partition_table.specs.Row.{row_of};

@@ -2,7 +2,7 @@ use crate::row::{MARK_HIGH, MARK_LOW};
 use crate::table::END_MARK;
 use crate::*;
 
-/// Type, subtype, offset and size of the rows of a table with a factory application and two update slots.
+/// Type, subtype, offset and size of the rows of a table with two update slots.
 const ROWS: [(u8, u8, u32, u32); 6] = [
     (1, 0x02, 0x9000, 0x4000),
     (1, 0x00, 0xD000, 0x2000),

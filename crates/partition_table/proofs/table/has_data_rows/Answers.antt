@@ -5,4 +5,6 @@ use Rattle.partition_table.proofs.table.has_data_rows.Goals as goal
 -- each test reads the bytes from its row on
 pub returns : goal.returns
 unfolding has_data_rows
-returns c = rw (c.begins_row-nvs.ensures, c.begins_row-otadata.ensures, c.begins_row-phy.ensures) (simp take_rest)
+returns c =
+    rw (c.begins_row-nvs.ensures, c.begins_row-otadata.ensures, c.begins_row-phy.ensures)
+    (simp take_rest)

@@ -7,8 +7,8 @@ use Rattle.partition_table.proofs.table.has_two_slots.Goals as goal
 pub returns-clause-exact : goal.returns-clause-exact
 unfolding is_two_slot_table
 returns-clause-exact c =
-    rw (c.has_data_rows-data.ensures, c.has_app_rows-app.ensures, c.begins_end-end.ensures, c.holds_otadata-otadata.ensures.exact, c.read.ensures)
-    (simp take_rest)
+    rw (c.has_data_rows-data.ensures, c.has_app_rows-app.ensures, c.begins_end-end.ensures)
+    (rw (c.holds_otadata-otadata.ensures.exact, c.read.ensures) (simp take_rest))
 
 -- the last test is that of the OTA data
 pub returns-clause-fits : goal.returns-clause-fits
