@@ -23,6 +23,18 @@ pub record CutDevice (D : Type 0) : Type 0 where
   pub faults : ℕ
   pub health : Health
 
+-- the device of these parts
+abbrev pub cut_device : {D : Type 0} → D → Option ℕ → ℕ → Option ℕ → ℕ → ℕ → Health → CutDevice D
+cut_device inner cut tear fail steps faults health = record {
+  inner = inner;
+  cut = cut;
+  tear = tear;
+  fail = fail;
+  steps = steps;
+  faults = faults;
+  health = health;
+}
+
 -- a chosen number is still to come behind this one
 abbrev pub IsAhead : Option ℕ → ℕ → Type 0
 IsAhead None n = Unit {0}

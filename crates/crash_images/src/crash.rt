@@ -1,6 +1,6 @@
-//! What a loss of power may leave of a device. It shows as the answer `Off`, which a device may give in any call, and the
-//! device then holds one of these flashes; a device changes in its calls alone, so what holds of them after each call
-//! holds at every moment.
+//! What a loss of power may leave of a device. It shows as the answer `Off`, which a device may give in
+//! any call, and the device then holds one of these flashes; a device changes in its calls alone, so
+//! what holds of them after each call holds at every moment.
 
 ghost use Rattle.std.specs.Prelude.{◌≡◌, ◌↔◌, ℕ, List, None, Some};
 ghost use Rattle.nor_device.specs.declared.step.Step.{Step};
@@ -14,10 +14,14 @@ pub trait Crash: Nor {
     ghost may_leave: { Self → List ℕ → Type 0 };
 
     /// Where no step runs, that is the bytes alone.
-    ghost idle_leaves: { (device : Self) (flash left : List ℕ) → Self.running device ≡ None → Self.bytes device ≡ Some flash → may_leave device left ↔ (left ≡ flash) };
+    ghost idle_leaves: { (device : Self) (flash left : List ℕ)
+        → Self.running device ≡ None → Self.bytes device ≡ Some flash
+        → may_leave device left ↔ (left ≡ flash) };
 
     /// Where one runs, that is every flash torn by it.
-    ghost torn_leaves: { (device : Self) (step : Step) (flash left : List ℕ) → Self.running device ≡ Some step → Self.bytes device ≡ Some flash → may_leave device left ↔ Torn flash step left };
+    ghost torn_leaves: { (device : Self) (step : Step) (flash left : List ℕ)
+        → Self.running device ≡ Some step → Self.bytes device ≡ Some flash
+        → may_leave device left ↔ Torn flash step left };
 }
 
 impl Crash for RamNor {
@@ -25,7 +29,7 @@ impl Crash for RamNor {
 
     ghost may_leave = { λ d left. MayLeave (Self.bytes d) (Self.running d) left };
 
-    ghost idle_leaves = { λ d flash left idle is. idle_leaves (Self.bytes d) (Self.running d) flash left idle is };
+    ghost idle_leaves = { λ d. idle_leaves (Self.bytes d) (Self.running d) };
 
-    ghost torn_leaves = { λ d step flash left runs is. running_leaves (Self.bytes d) (Self.running d) step flash left runs is };
+    ghost torn_leaves = { λ d. running_leaves (Self.bytes d) (Self.running d) };
 }

@@ -2,15 +2,15 @@
 
 ghost use Rattle.std.specs.Prelude.{◌≡◌, ◌+◌, true, false, None, IsSome, IfErr, OnOk};
 ghost use Rattle.nor_device.specs.Device.{one_more};
-ghost use Rattle.crash_images.specs.Cut.{IsAhead, NotBoth, IsBad, running_by, left_by, restarted, unspent_of, health_by};
+ghost use Rattle.crash_images.specs.Cut.{cut_device, IsAhead, NotBoth, IsBad, running_by, left_by, restarted, unspent_of, health_by};
 
 use crate::crash::Crash;
 use crate::tear::tear_step;
 use nor_device::{Nor, NorFault, Ready, Step};
 use std::marker::Model;
 
-/// What may still go wrong: the step in which the power goes off, the tear number, the step that fails, and what the
-/// device inside may do.
+/// What may still go wrong: the step in which the power goes off, the tear number, the step that
+/// fails, and what the device inside may do.
 pub struct CutSetting<S> {
     pub cut: Option<u64>,
     pub tear: u64,
@@ -31,7 +31,8 @@ pub enum Health {
     Failed,
 }
 
-/// A device whose power goes off, or which fails, in the step of a chosen number. Steps are numbered from 1.
+/// A device whose power goes off, or which fails, in the step of a chosen number. The steps are
+/// numbered from 1.
 #[derive(Drop)]
 pub struct CutNor<D: Nor> {
     inner: D,
@@ -43,25 +44,27 @@ pub struct CutNor<D: Nor> {
     health: Health,
 }
 
-// Clauses see all of it; inside it the chosen number is still to come, is that of the step that runs, or has come.
+// Clauses see all of it; inside it the chosen number is still to come, is that of the step that
+// runs, or has come.
 impl<D: Nor> Model for CutNor<D> {
-    ghost use Rattle.crash_images.specs.Cut.{CutDevice, IsCut};
+    ghost use Rattle.crash_images.specs.Cut.{CutDevice, cut_device, IsCut};
 
     ghost Value = { CutDevice D };
 
-    ghost view = { λ d. record { inner = d.inner; cut = d.cut; tear = d.tear; fail = d.fail; steps = d.steps; faults = d.faults; health = d.health } };
+    ghost view = { λ d. cut_device d.inner d.cut d.tear d.fail d.steps d.faults d.health };
 
-    ghost invariant = { λ d. IsCut D.running D.size D.off D.setting D.may_end D.may_refuse (record { inner = d.inner; cut = d.cut; tear = d.tear; fail = d.fail; steps = d.steps; faults = d.faults; health = d.health }) };
+    ghost invariant = { λ d. IsCut D.running D.size D.off D.setting D.may_end D.may_refuse
+        (cut_device d.inner d.cut d.tear d.fail d.steps d.faults d.health) };
 }
 
 impl<D: Nor> CutNor<D> {
-    /// The device over `inner`. In step `cut` the first poll answers `Off`; in step `fail` it answers `Failed`, and so does
-    /// every later call. The step is then torn by the tear number.
+    /// The device over `inner`. In step `cut` the first poll answers `Off`; in step `fail` it answers
+    /// `Failed`, and so does every later call. The step is then torn by the tear number.
     pub fn new(inner: D, cut: Option<u64>, tear: u64, fail: Option<u64>) -> CutNor<D>
         requires one { NotBoth cut fail }
         requires cut { IsAhead cut 0 }
         requires fail { IsAhead fail 0 }
-        ensures { result ≡ record { inner = inner; cut = cut; tear = tear; fail = fail; steps = 0; faults = 0; health = Health.Sound } }
+        ensures { result ≡ cut_device inner cut tear fail 0 0 Health.Sound }
     {
         CutNor {
             inner,
@@ -74,8 +77,8 @@ impl<D: Nor> CutNor<D> {
         }
     }
 
-    /// The device with its power on: it answers again. Its bytes, the number of steps and the tear number stay, and a
-    /// chosen step that has come is spent.
+    /// The device with its power on: it answers again. Its bytes, the number of steps and the tear
+    /// number stay, and a chosen step that has come is spent.
     pub fn restart(self) -> CutNor<D>
         requires idle { running_by self.health (D.running self.inner) ≡ None }
         requires on { D.off self.inner ≡ false }
@@ -195,7 +198,7 @@ impl<D: Nor> Nor for CutNor<D> {
         }
         let number = self.steps.saturating_add(1);
         let due = self.cut == Some(number) || self.fail == Some(number);
-        // A step that is to be torn is not begun inside: the power there is asked for by a read of nothing.
+        // A step that is to be torn is not begun inside: a read of nothing asks for the power there.
         let begun = if due {
             self.inner.read(0, &mut [])
         } else {
@@ -231,16 +234,17 @@ impl<D: Nor> Crash for CutNor<D> {
 
     ghost may_leave = { λ d left. MayLeave (Self.bytes d) (Self.running d) left };
 
-    ghost idle_leaves = { λ d flash left idle is. idle_leaves (Self.bytes d) (Self.running d) flash left idle is };
+    ghost idle_leaves = { λ d. idle_leaves (Self.bytes d) (Self.running d) };
 
-    ghost torn_leaves = { λ d step flash left runs is. running_leaves (Self.bytes d) (Self.running d) step flash left runs is };
+    ghost torn_leaves = { λ d. running_leaves (Self.bytes d) (Self.running d) };
 }
 
 // What the first poll of a step that is due answers: what the device inside did, else as was chosen.
 fn refusal(torn: Result<(), NorFault>, cut: bool, faults: &mut u64) -> NorFault
     ensures inside { IfErr torn (λ why. (result ≡ why) × (faults.new ≡ faults.old)) }
     ensures off { OnOk torn (cut ≡ true → (result ≡ NorFault.Off) × (faults.new ≡ faults.old)) }
-    ensures failed { OnOk torn (cut ≡ false → (result ≡ NorFault.Failed) × (faults.new ≡ one_more faults.old)) }
+    ensures failed { OnOk torn
+        (cut ≡ false → (result ≡ NorFault.Failed) × (faults.new ≡ one_more faults.old)) }
 {
     match torn {
         Err(why) => why,

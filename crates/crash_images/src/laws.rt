@@ -16,8 +16,8 @@ use crate::crash::Crash;
 use crate::cut::CutNor;
 use nor_device::{Nor, RamNor};
 
-/// The flash that a tear number names is a torn one; its bytes are the torn bytes in the step's range, and the old ones
-/// outside.
+/// The flash that a tear number names is a torn one; its bytes are the torn bytes in the step's range,
+/// and the old ones outside.
 pub fn laws_of_tear_numbers()
     ensures torn { (flash : List ℕ) (step : Step) (tear : ℕ)
         → Torn flash step (torn_by flash step tear) }
@@ -44,25 +44,28 @@ pub fn laws_of_power_loss()
         → LeftAfter flash steps (after_steps flash steps) }
 {}
 
-/// What a loss of power now may leave of a device: its bytes alone where no step runs, and every flash torn by the step
-/// that runs.
-pub fn power_loss_leaves<D: Crash>(_device: &D)
+/// What a loss of power now may leave of a device: its bytes alone where no step runs, and every flash
+/// torn by the step that runs.
+pub fn power_loss_leaves<D: Crash>(device: &D)
     ensures idle { (flash left : List ℕ)
-        → D.running _device.now ≡ None → D.bytes _device.now ≡ Some flash
-        → D.may_leave _device.now left ↔ (left ≡ flash) }
+        → D.running device.now ≡ None → D.bytes device.now ≡ Some flash
+        → D.may_leave device.now left ↔ (left ≡ flash) }
     ensures running { (step : Step) (flash left : List ℕ)
-        → D.running _device.now ≡ Some step → D.bytes _device.now ≡ Some flash
-        → D.may_leave _device.now left ↔ Torn flash step left }
-{}
+        → D.running device.now ≡ Some step → D.bytes device.now ≡ Some flash
+        → D.may_leave device.now left ↔ Torn flash step left }
+{
+    let _ = device;
+}
 
-/// The setting of a `CutNor` over a `RamNor`: each step number has one end up to the chosen one, and none behind it; a
-/// refused poll leaves the flash of the tear number; a read or start is refused behind the chosen step alone, and so as
-/// that step was.
+/// The setting of a `CutNor` over a `RamNor`: each step number has one end up to the chosen one, and none
+/// behind it; a refused poll leaves the flash of the tear number; a read or start is refused behind the
+/// chosen step alone, and so as that step was.
 pub fn setting_of_cut_nor_over_ram_nor()
     ensures ends { (set : CutSetting (Unit {0})) (n : ℕ) (end : StepEnd)
         → ⟦<CutNor<RamNor> as Nor>⟧.may_end set n end ↔ EndsBy set.cut set.fail n end }
     ensures tears { (set : CutSetting (Unit {0})) (n : ℕ) (flash : List ℕ) (step : Step) (left : List ℕ)
-        → ⟦<CutNor<RamNor> as Nor>⟧.may_tear set n flash step left ↔ (left ≡ torn_by flash step set.tear) }
+        → ⟦<CutNor<RamNor> as Nor>⟧.may_tear set n flash step left
+        ↔ (left ≡ torn_by flash step set.tear) }
     ensures refuses { (set : CutSetting (Unit {0})) (n : ℕ) (why : NorFault)
         → ⟦<CutNor<RamNor> as Nor>⟧.may_refuse set n why ↔ EndsBy set.cut set.fail n (end_by why) }
     ensures stops { (set : CutSetting (Unit {0})) (n : ℕ)

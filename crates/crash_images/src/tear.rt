@@ -1,5 +1,5 @@
-//! A step that is cut short is made on the device by steps: a program with the bits of the mask left in its data, and an
-//! erase that is followed by programs of the bytes with the bits of the mask set.
+//! A step that is cut short is made on the device by steps: a program with the bits of the mask left in
+//! its data, and an erase that is followed by programs of the bytes with the bits of the mask set.
 
 ghost use Rattle.std.specs.Prelude.{◌≡◌, ℕ, ◌+◌, ◌*◌, ◌%◌, ◌<◌, ◌≤◌, ◌^◌, true, None, Some, OnOk, OnErr, length, slice_index};
 ghost use Rattle.nor_device.specs.declared.step.Step.TheVariants.{Erase, Program};
@@ -19,7 +19,8 @@ pub(crate) fn tear_step<D: Nor>(inner: &mut D, step: &Step, tear: u64) -> Result
     requires small { end_of step.now ≤ 2 ^ 32 }
     requires inside { end_of step.now ≤ D.size inner.old }
     ensures idle { D.running inner.new ≡ None }
-    ensures left { IsLeftTorn (TearLeaves D.may_end D.may_refuse (D.setting inner.old) tear) (Some step.now) (D.bytes inner.old) (D.bytes inner.new) }
+    ensures left { IsLeftTorn (TearLeaves D.may_end D.may_refuse (D.setting inner.old) tear)
+        (Some step.now) (D.bytes inner.old) (D.bytes inner.new) }
     ensures allowed { OnErr result (MayRefuse D.may_end D.may_refuse (D.setting inner.old)) }
     ensures setting { KeepsSetting D.size D.setting inner.old inner.new }
     ensures cause { HasCause (D.faults inner.old) (D.faults inner.new) (D.off inner.new) result }
@@ -53,8 +54,10 @@ fn tear_program<D: Nor>(inner: &mut D, at: u32, page: &Page, tear: u64) -> Resul
     requires small { at + length page.now ≤ 2 ^ 32 }
     requires inside { at + length page.now ≤ D.size inner.old }
     ensures idle { D.running inner.new ≡ None }
-    ensures torn { OnOk result (IsTornByNumber (Program at page.now) tear (D.bytes inner.old) (D.bytes inner.new)) }
-    ensures refused { OnErr result (IsTornBy (Program at page.now) (D.bytes inner.old) (D.bytes inner.new)) }
+    ensures torn { OnOk result
+        (IsTornByNumber (Program at page.now) tear (D.bytes inner.old) (D.bytes inner.new)) }
+    ensures refused { OnErr result
+        (IsTornBy (Program at page.now) (D.bytes inner.old) (D.bytes inner.new)) }
     ensures allowed { OnErr result (MayRefuse D.may_end D.may_refuse (D.setting inner.old)) }
     ensures setting { KeepsSetting D.size D.setting inner.old inner.new }
     ensures cause { HasCause (D.faults inner.old) (D.faults inner.new) (D.off inner.new) result }
@@ -85,7 +88,8 @@ fn tear_erase<D: Nor>(inner: &mut D, sector: u32, tear: u64) -> Result<(), NorFa
     requires small { end_of (Erase sector) ≤ 2 ^ 32 }
     requires inside { end_of (Erase sector) ≤ D.size inner.old }
     ensures idle { D.running inner.new ≡ None }
-    ensures torn { OnOk result (IsTornByNumber (Erase sector) tear (D.bytes inner.old) (D.bytes inner.new)) }
+    ensures torn { OnOk result
+        (IsTornByNumber (Erase sector) tear (D.bytes inner.old) (D.bytes inner.new)) }
     ensures refused { OnErr result (IsTornBy (Erase sector) (D.bytes inner.old) (D.bytes inner.new)) }
     ensures allowed { OnErr result (MayRefuse D.may_end D.may_refuse (D.setting inner.old)) }
     ensures setting { KeepsSetting D.size D.setting inner.old inner.new }
@@ -139,7 +143,8 @@ fn put_back<D: Nor>(inner: &mut D, at: u32, part: &[u8]) -> Result<(), NorFault>
     ensures idle { D.running inner.new ≡ None }
     ensures bytes { (k : ℕ) → slice_index part.now k < 256 }
     ensures put { OnOk result (IsAfter (Program at part.now) (D.bytes inner.old) (D.bytes inner.new)) }
-    ensures refused { OnErr result (StaysOutside at (at + length part.now) (D.bytes inner.old) (D.bytes inner.new)) }
+    ensures refused { OnErr result
+        (StaysOutside at (at + length part.now) (D.bytes inner.old) (D.bytes inner.new)) }
     ensures allowed { OnErr result (MayRefuse D.may_end D.may_refuse (D.setting inner.old)) }
     ensures setting { KeepsSetting D.size D.setting inner.old inner.new }
     ensures cause { HasCause (D.faults inner.old) (D.faults inner.new) (D.off inner.new) result }

@@ -5,9 +5,10 @@ ghost use Rattle.crash_images.specs.Tear.{mask_at, torn_byte_of, masked};
 
 /// The byte that is left of `old`, the `i`-th of the range of a step that was cut short.
 ///
-/// Bits 0 to 7 of the tear number are the mask in its window, bits 8 to 15 the mask elsewhere; the window begins at
-/// bits 16 to 31 and ends before bits 32 to 47. An erase leaves `old | mask`, and a program of `new` leaves
-/// `old & (new | mask)`: tear 0 leaves an erase undone and a program done, and 0xFFFF the contrary.
+/// Bits 0 to 7 of the tear number are the mask in its window, bits 8 to 15 the mask elsewhere; the
+/// window begins at bits 16 to 31 and ends before bits 32 to 47. An erase leaves `old | mask`, and a
+/// program of `new` leaves `old & (new | mask)`: tear 0 leaves an erase undone and a program done, and
+/// 0xFFFF the contrary.
 pub fn torn_byte(old: u8, new: u8, erase: bool, tear: u64, i: u32) -> u8
     ensures { result ≡ torn_byte_of old new erase tear i }
 {
