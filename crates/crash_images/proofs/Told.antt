@@ -17,26 +17,46 @@ use Rattle.crash_images.specs.Cut.{MayRefuse, TearLeaves, IsTornByNumber, CutMay
 use Rattle.crash_images.specs.declared.cut.CutSetting.{CutSetting}
 
 -- a program with the masked data leaves what the tear number names
-pub program_torn : (at tear : ℕ) (page bytes : List ℕ) (old new : Option (List ℕ)) → bytes ≡ masked tear 0 page → IsAfter (Program at bytes) old new → IsTornByNumber (Program at page) tear old new
+pub program_torn : (at tear : ℕ) (page bytes : List ℕ) (old new : Option (List ℕ))
+    → bytes ≡ masked tear 0 page → IsAfter (Program at bytes) old new
+    → IsTornByNumber (Program at page) tear old new
 program_torn at tear page bytes None new is after = tt
-program_torn at tear page bytes (Some flash) new is after = after ∙ ap (λ (b : List ℕ). Some (applied flash (Program at b))) is ∙ ap Some (applied_masked flash at tear page)
+program_torn at tear page bytes (Some flash) new is after = after
+    ∙ ap (λ (b : List ℕ). Some (applied flash (Program at b))) is
+    ∙ ap Some (applied_masked flash at tear page)
 
 -- where it is refused, it leaves the program torn
-pub program_refused : (at tear : ℕ) (page bytes : List ℕ) (old new : Option (List ℕ)) → bytes ≡ masked tear 0 page → IsTornBy (Program at bytes) old new → IsTornBy (Program at page) old new
+pub program_refused : (at tear : ℕ) (page bytes : List ℕ) (old new : Option (List ℕ))
+    → bytes ≡ masked tear 0 page → IsTornBy (Program at bytes) old new
+    → IsTornBy (Program at page) old new
 program_refused at tear page bytes None new is torn = tt
-program_refused at tear page bytes (Some flash) new is torn =
-    (torn.0, torn.1, torn_masked flash torn.0 at tear page (subst (λ (b : List ℕ). Torn flash (Program at b) torn.0) is torn.2))
+program_refused at tear page bytes (Some flash) new is torn = (
+  torn.0,
+  torn.1,
+  torn_masked flash torn.0 at tear page
+      (subst (λ (b : List ℕ). Torn flash (Program at b) torn.0) is torn.2),
+)
 
 -- a step that was missed shows that the setting allows a refusal
-pub missed : {S : Type 0} (may_end : S → ℕ → StepEnd → Type 0) (may_refuse : S → ℕ → NorFault → Type 0) (old mid : S) (steps : ℕ) (r : Result (Unit {0}) NorFault) → mid ≡ old → IfErr r (MayMissStep may_end may_refuse mid steps) → OnErr r (MayRefuse may_end may_refuse old)
+pub missed : {S : Type 0} (may_end : S → ℕ → StepEnd → Type 0)
+    (may_refuse : S → ℕ → NorFault → Type 0) (old mid : S) (steps : ℕ)
+    (r : Result (Unit {0}) NorFault) → mid ≡ old
+    → IfErr r (MayMissStep may_end may_refuse mid steps)
+    → OnErr r (MayRefuse may_end may_refuse old)
 missed may_end may_refuse old mid steps (Ok x) same allowed = allowed
-missed may_end may_refuse old mid steps (Err why) same (inl refused) = (steps, why, inl (subst (λ s. may_refuse s steps why) same refused))
-missed may_end may_refuse old mid steps (Err why) same (inr ended) = (one_more steps, why, inr (subst (λ s. may_end s (one_more steps) (end_by why)) same ended))
+missed may_end may_refuse old mid steps (Err why) same (inl refused) =
+    (steps, why, inl (subst (λ s. may_refuse s steps why) same refused))
+missed may_end may_refuse old mid steps (Err why) same (inr ended) =
+    (one_more steps, why, inr (subst (λ s. may_end s (one_more steps) (end_by why)) same ended))
 
 -- the same where the refusal is known
-pub missed_by : {S : Type 0} (may_end : S → ℕ → StepEnd → Type 0) (may_refuse : S → ℕ → NorFault → Type 0) (old mid : S) (steps : ℕ) (why : NorFault) → mid ≡ old → MayMissStep may_end may_refuse mid steps why → MayRefuse may_end may_refuse old
-missed_by may_end may_refuse old mid steps why same (inl refused) = (steps, why, inl (subst (λ s. may_refuse s steps why) same refused))
-missed_by may_end may_refuse old mid steps why same (inr ended) = (one_more steps, why, inr (subst (λ s. may_end s (one_more steps) (end_by why)) same ended))
+pub missed_by : {S : Type 0} (may_end : S → ℕ → StepEnd → Type 0)
+    (may_refuse : S → ℕ → NorFault → Type 0) (old mid : S) (steps : ℕ) (why : NorFault) → mid ≡ old
+    → MayMissStep may_end may_refuse mid steps why → MayRefuse may_end may_refuse old
+missed_by may_end may_refuse old mid steps why same (inl refused) =
+    (steps, why, inl (subst (λ s. may_refuse s steps why) same refused))
+missed_by may_end may_refuse old mid steps why same (inr ended) =
+    (one_more steps, why, inr (subst (λ s. may_end s (one_more steps) (end_by why)) same ended))
 
 -- nothing was put back yet
 pub put_none : (at : ℕ) (told : Option (List ℕ)) → IsAfter (Program at []) told told
@@ -44,50 +64,75 @@ put_none at None = tt
 put_none at (Some flash) = ap Some (sym (applied_nothing flash at))
 
 -- one page more was put back
-pub put_more : (at next : ℕ) (front page : List ℕ) (old mid new : Option (List ℕ)) → next ≡ at + length front → IsAfter (Program at front) old mid → IsAfter (Program next page) mid new → IsAfter (Program at (front ++ page)) old new
+pub put_more : (at next : ℕ) (front page : List ℕ) (old mid new : Option (List ℕ))
+    → next ≡ at + length front → IsAfter (Program at front) old mid
+    → IsAfter (Program next page) mid new → IsAfter (Program at (front ++ page)) old new
 put_more at next front page None mid new is one two = tt
 put_more at next front page (Some flash) mid new is one two =
     let two_on = subst (λ (m : Option (List ℕ)). IsAfter (Program next page) m new) one two in
-    two_on ∙ ap (λ (n : ℕ). Some (applied (applied flash (Program at front)) (Program n page))) is ∙ ap Some (applied_more flash at front page)
+    two_on ∙ ap (λ (n : ℕ). Some (applied (applied flash (Program at front)) (Program n page))) is
+    ∙ ap Some (applied_more flash at front page)
 
 -- what was put back changed only its range
-pub put_outside : (at end : ℕ) (bytes : List ℕ) (old new : Option (List ℕ)) → at + length bytes ≤ end → IsAfter (Program at bytes) old new → StaysOutside at end old new
+pub put_outside : (at end : ℕ) (bytes : List ℕ) (old new : Option (List ℕ))
+    → at + length bytes ≤ end → IsAfter (Program at bytes) old new → StaysOutside at end old new
 put_outside at end bytes None new long after = tt
 put_outside at end bytes (Some flash) new long after =
-    let step = Program at bytes in
-    (applied flash step, after, outside_wider at (at + length bytes) at end flash (applied flash step) (omega arith) long (outside_torn flash (applied flash step) step (torn_applied flash step)))
+    let step = Program at bytes in (
+      applied flash step,
+      after,
+      outside_wider at (at + length bytes) at end flash (applied flash step) (omega arith) long
+          (outside_torn flash (applied flash step) step (torn_applied flash step)),
+    )
 
 -- and where a page was refused, too
-pub put_refused : (at end next : ℕ) (page : List ℕ) (old mid new : Option (List ℕ)) → at ≤ next → next + length page ≤ end → StaysOutside at end old mid → IsTornBy (Program next page) mid new → StaysOutside at end old new
+pub put_refused : (at end next : ℕ) (page : List ℕ) (old mid new : Option (List ℕ)) → at ≤ next
+    → next + length page ≤ end → StaysOutside at end old mid → IsTornBy (Program next page) mid new
+    → StaysOutside at end old new
 put_refused at end next page None mid new low high one two = tt
 put_refused at end next page (Some flash) mid new low high one two =
     let step = Program next page in
-    let torn = subst (λ (m : Option (List ℕ)). IsTornBy step m new) one.1 two in
-    (torn.0, torn.1, outside_twice at end flash one.0 torn.0 one.2 (outside_wider next (next + length page) at end one.0 torn.0 low high (outside_torn one.0 torn.0 step torn.2)))
+    let torn = subst (λ (m : Option (List ℕ)). IsTornBy step m new) one.1 two in (
+      torn.0,
+      torn.1,
+      outside_twice at end flash one.0 torn.0 one.2
+          (outside_wider next (next + length page) at end one.0 torn.0 low high
+          (outside_torn one.0 torn.0 step torn.2)),
+    )
 
 -- the front and the next page are a longer front
-front_and_page : (done : ℕ) (part : List ℕ) → take done part ++ take (done + 256 - done) (drop done part) ≡ take (done + 256) part
+front_and_page : (done : ℕ) (part : List ℕ)
+    → take done part ++ take (done + 256 - done) (drop done part) ≡ take (done + 256) part
 front_and_page done part =
     let page : done + 256 - done ≡ 256 = omega arith in
     ap (λ (n : ℕ). take done part ++ take n (drop done part)) page
-    ∙ ap (λ (l : List ℕ). l ++ take 256 (drop done part)) (sym (take-take done (done + 256) part (omega arith)))
+    ∙ ap (λ (l : List ℕ). l ++ take 256 (drop done part))
+    (sym (take-take done (done + 256) part (omega arith)))
     ∙ ap (λ (l : List ℕ). take done (take (done + 256) part) ++ l) (sym (drop-take done 256 part))
     ∙ take-append-drop done (take (done + 256) part)
 
 -- the next page was put back
-pub page_put : (at done : ℕ) (part : List ℕ) (old mid new : Option (List ℕ)) → done + 256 ≤ length part → IsAfter (Program at (take done part)) old mid
-    → IsAfter (Program (at + done) (take (done + 256 - done) (drop done part))) mid new → IsAfter (Program at (take (done + 256) part)) old new
+pub page_put : (at done : ℕ) (part : List ℕ) (old mid new : Option (List ℕ))
+    → done + 256 ≤ length part → IsAfter (Program at (take done part)) old mid
+    → IsAfter (Program (at + done) (take (done + 256 - done) (drop done part))) mid new
+    → IsAfter (Program at (take (done + 256) part)) old new
 page_put at done part old mid new inside one two =
     let long : at + done ≡ at + length (take done part) = omega (arith, length-take done part) in
-    subst (λ (l : List ℕ). IsAfter (Program at l) old new) (front_and_page done part) (put_more at (at + done) (take done part) _ old mid new long one two)
+    subst (λ (l : List ℕ). IsAfter (Program at l) old new) (front_and_page done part)
+    (put_more at (at + done) (take done part) _ old mid new long one two)
 
 -- or it was refused
-pub page_refused : (at done : ℕ) (part : List ℕ) (old mid new : Option (List ℕ)) → done + 256 ≤ length part → IsAfter (Program at (take done part)) old mid
-    → IsTornBy (Program (at + done) (take (done + 256 - done) (drop done part))) mid new → StaysOutside at (at + length part) old new
+pub page_refused : (at done : ℕ) (part : List ℕ) (old mid new : Option (List ℕ))
+    → done + 256 ≤ length part → IsAfter (Program at (take done part)) old mid
+    → IsTornBy (Program (at + done) (take (done + 256 - done) (drop done part))) mid new
+    → StaysOutside at (at + length part) old new
 page_refused at done part old mid new inside one two =
-    let front : at + length (take done part) ≤ at + length part = omega (arith, length-take done part) in
-    let page : at + done + length (take (done + 256 - done) (drop done part)) ≤ at + length part = omega (arith, length-take (done + 256 - done) (drop done part)) in
-    put_refused at (at + length part) (at + done) _ old mid new (omega arith) page (put_outside at (at + length part) (take done part) old mid front one) two
+    let front : at + length (take done part) ≤ at + length part =
+    omega (arith, length-take done part) in
+    let page : at + done + length (take (done + 256 - done) (drop done part)) ≤ at + length part =
+    omega (arith, length-take (done + 256 - done) (drop done part)) in
+    put_refused at (at + length part) (at + done) _ old mid new (omega arith) page
+    (put_outside at (at + length part) (take done part) old mid front one) two
 
 -- an erase may leave any byte
 pub erases_any : (erase : Step) → is_erase erase ≡ true → (k a b : ℕ) → IsTornByte erase k a b
@@ -100,7 +145,8 @@ erases_ones (Erase sector) erases k b = refl
 erases_ones (Program at page) erases k b = absurd (cc erases)
 
 -- and a tear number leaves the masked bytes
-erases_part : (erase : Step) → is_erase erase ≡ true → (tear : ℕ) (part : List ℕ) → torn_part erase tear part ≡ masked tear 0 part
+erases_part : (erase : Step) → is_erase erase ≡ true → (tear : ℕ) (part : List ℕ)
+    → torn_part erase tear part ≡ masked tear 0 part
 erases_part (Erase sector) erases tear part = refl
 erases_part (Program at page) erases tear part = absurd (cc erases)
 
@@ -110,28 +156,42 @@ erases_paged (Erase sector) erases = tt
 erases_paged (Program at page) erases = absurd (cc erases)
 
 -- the erase, and the masked bytes put back over it, are the erase torn by the number
-pub erase_torn : (erase : Step) → is_erase erase ≡ true → (at tear len : ℕ) (bytes masks : List ℕ) (old same mid new : Option (List ℕ)) → at ≡ start_of erase → len ≡ len_of erase
-    → IfSome old (λ flash. bytes ≡ part_of flash at len) → masks ≡ masked tear 0 bytes → ((k : ℕ) → get_or masks k 0 < 256) → ((flash : List ℕ) → old ≡ Some flash → end_of erase ≤ length flash)
-    → same ≡ old → IsAfter erase same mid → IsAfter (Program at masks) mid new → IsTornByNumber erase tear old new
-erase_torn erase erases at tear len bytes masks None same mid new at_is len_is read mask small inside is one two = tt
-erase_torn erase erases at tear len bytes masks (Some flash) same mid new at_is len_is read mask small inside is one two =
+pub erase_torn : (erase : Step) → is_erase erase ≡ true
+    → (at tear len : ℕ) (bytes masks : List ℕ) (old same mid new : Option (List ℕ))
+    → at ≡ start_of erase → len ≡ len_of erase
+    → IfSome old (λ flash. bytes ≡ part_of flash at len) → masks ≡ masked tear 0 bytes
+    → ((k : ℕ) → get_or masks k 0 < 256)
+    → ((flash : List ℕ) → old ≡ Some flash → end_of erase ≤ length flash)
+    → same ≡ old → IsAfter erase same mid → IsAfter (Program at masks) mid new
+    → IsTornByNumber erase tear old new
+erase_torn erase erases at tear len bytes masks None same mid new at_is len_is read mask small
+    inside is one two = tt
+erase_torn erase erases at tear len bytes masks
+    (Some flash) same mid new at_is len_is read mask small inside is one two =
     let start = start_of erase in
     let part = take (len_of erase) (drop start flash) in
     let one_on = subst (λ (m : Option (List ℕ)). IsAfter erase m mid) is one in
     let two_on = subst (λ (m : Option (List ℕ)). IsAfter (Program at masks) m new) one_on two in
-    let bytes_are : bytes ≡ part = read ∙ ap (λ (n : ℕ). take n (drop at flash)) len_is ∙ ap (λ (n : ℕ). take (len_of erase) (drop n flash)) at_is in
-    let masks_are : masks ≡ torn_part erase tear part = mask ∙ ap (masked tear 0) bytes_are ∙ sym (erases_part erase erases tear part) in
+    let bytes_are : bytes ≡ part = read ∙ ap (λ (n : ℕ). take n (drop at flash)) len_is
+    ∙ ap (λ (n : ℕ). take (len_of erase) (drop n flash)) at_is in
+    let masks_are : masks ≡ torn_part erase tear part = mask ∙ ap (masked tear 0) bytes_are
+    ∙ sym (erases_part erase erases tear part) in
     let room = inside flash refl in
-    let part_len : length part ≡ len_of erase = omega (arith, room, length-take (len_of erase) (drop start flash), length-drop start flash) in
-    let long : length masks ≡ len_of erase = ap length masks_are ∙ ap length (erases_part erase erases tear part) ∙ length_masked tear 0 part ∙ part_len in
+    let part_len : length part ≡ len_of erase =
+    omega (arith, room, length-take (len_of erase) (drop start flash), length-drop start flash)
+    in
+    let long : length masks ≡ len_of erase = ap length masks_are
+    ∙ ap length (erases_part erase erases tear part) ∙ length_masked tear 0 part ∙ part_len in
     two_on
     ∙ ap (λ (n : ℕ). Some (applied (applied flash erase) (Program n masks))) at_is
     ∙ ap Some (applied_erased flash erase (erases_ones erase erases) masks long room small)
     ∙ ap (λ (l : List ℕ). Some (take start flash ++ l ++ drop (end_of erase) flash)) masks_are
 
 -- where putting back was refused, the erase is torn
-pub erase_refused : (erase : Step) → is_erase erase ≡ true → (at len : ℕ) (old same mid new : Option (List ℕ)) → at ≡ start_of erase → len ≡ len_of erase
-    → same ≡ old → IsAfter erase same mid → StaysOutside at (at + len) mid new → IsTornBy erase old new
+pub erase_refused : (erase : Step) → is_erase erase ≡ true
+    → (at len : ℕ) (old same mid new : Option (List ℕ)) → at ≡ start_of erase → len ≡ len_of erase
+    → same ≡ old → IsAfter erase same mid → StaysOutside at (at + len) mid new
+    → IsTornBy erase old new
 erase_refused erase erases at len None same mid new at_is len_is is one two = tt
 erase_refused erase erases at len (Some flash) same mid new at_is len_is is one two =
     let one_on = subst (λ (m : Option (List ℕ)). IsAfter erase m mid) is one in
@@ -139,34 +199,58 @@ erase_refused erase erases at len (Some flash) same mid new at_is len_is is one 
     let first = outside_torn flash (applied flash erase) erase (torn_applied flash erase) in
     let low : start_of erase ≤ at = omega arith in
     let high : at + len ≤ end_of erase = omega arith in
-    let second = outside_wider at (at + len) (start_of erase) (end_of erase) (applied flash erase) two_on.0 low high two_on.2 in
-    (two_on.0, two_on.1, torn_outside erase (erases_any erase erases) flash two_on.0 (outside_twice (start_of erase) (end_of erase) flash (applied flash erase) two_on.0 first second))
+    let second = outside_wider at (at + len) (start_of erase) (end_of erase)
+    (applied flash erase) two_on.0 low high two_on.2 in (
+      two_on.0,
+      two_on.1,
+      torn_outside erase (erases_any erase erases) flash two_on.0
+          (outside_twice (start_of erase) (end_of erase) flash
+          (applied flash erase) two_on.0 first second),
+    )
 
 -- an untouched flash is torn of itself
 pub untouched : (step : Step) (old same : Option (List ℕ)) → same ≡ old → IsTornBy step old same
 untouched step old same is = torn_untouched step old same is
 
 -- what a step leaves is the same from told bytes that are the same
-pub refused_on : (step : Step) (old same new : Option (List ℕ)) → same ≡ old → IsTornBy step same new → IsTornBy step old new
+pub refused_on : (step : Step) (old same new : Option (List ℕ)) → same ≡ old
+    → IsTornBy step same new → IsTornBy step old new
 refused_on step old same new is torn = subst (λ (m : Option (List ℕ)). IsTornBy step m new) is torn
 
 -- a step that was torn is left torn, by the number or where a refusal is allowed
-pub left_torn : {S : Type 0} (may_end : S → ℕ → StepEnd → Type 0) (may_refuse : S → ℕ → NorFault → Type 0) (setting : S) (tear : ℕ) (step : Step) (old new : Option (List ℕ)) (r : Result (Unit {0}) NorFault)
-    → OnOk r (IsTornByNumber step tear old new) → OnErr r (IsTornBy step old new) → OnErr r (MayRefuse may_end may_refuse setting) → IsLeftTorn (TearLeaves may_end may_refuse setting tear) (Some step) old new
+pub left_torn : {S : Type 0} (may_end : S → ℕ → StepEnd → Type 0)
+    (may_refuse : S → ℕ → NorFault → Type 0) (setting : S) (tear : ℕ) (step : Step)
+    (old new : Option (List ℕ)) (r : Result (Unit {0}) NorFault)
+    → OnOk r (IsTornByNumber step tear old new) → OnErr r (IsTornBy step old new)
+    → OnErr r (MayRefuse may_end may_refuse setting)
+    → IsLeftTorn (TearLeaves may_end may_refuse setting tear) (Some step) old new
 left_torn may_end may_refuse setting tear step None new r torn refused allowed = tt
-left_torn may_end may_refuse setting tear step (Some flash) new (Ok x) torn refused allowed = (torn_by flash step tear, torn, tear_is_torn flash step tear, inl refl)
-left_torn may_end may_refuse setting tear step (Some flash) new (Err why) torn refused allowed = (refused.0, refused.1, refused.2, inr allowed)
+left_torn may_end may_refuse setting tear step (Some flash) new (Ok x) torn refused allowed =
+    (torn_by flash step tear, torn, tear_is_torn flash step tear, inl refl)
+left_torn may_end may_refuse setting tear step (Some flash) new (Err why) torn refused allowed =
+    (refused.0, refused.1, refused.2, inr allowed)
 
 -- a poll that the device inside refused leaves its step torn
-pub poll_refused : {S : Type 0} (may_end : S → ℕ → StepEnd → Type 0) (may_refuse : S → ℕ → NorFault → Type 0) (may_tear : S → ℕ → List ℕ → Step → List ℕ → Type 0) (setting : S) (steps tear : ℕ) (running : Option Step) (old new : Option (List ℕ)) (r : Result Ready NorFault)
-    → OnErr r (IsLeftTorn (may_tear setting steps) running old new) → IfErr r (λ why. may_end setting steps (end_by why)) → OnErr r (IsLeftTorn (TearLeaves may_end may_refuse setting tear) running old new)
+pub poll_refused : {S : Type 0} (may_end : S → ℕ → StepEnd → Type 0)
+    (may_refuse : S → ℕ → NorFault → Type 0) (may_tear : S → ℕ → List ℕ → Step → List ℕ → Type 0)
+    (setting : S) (steps tear : ℕ) (running : Option Step) (old new : Option (List ℕ))
+    (r : Result Ready NorFault)
+    → OnErr r (IsLeftTorn (may_tear setting steps) running old new)
+    → IfErr r (λ why. may_end setting steps (end_by why))
+    → OnErr r (IsLeftTorn (TearLeaves may_end may_refuse setting tear) running old new)
 poll_refused may_end may_refuse may_tear setting steps tear running old new (Ok x) torn ended = torn
 poll_refused may_end may_refuse may_tear setting steps tear None old new (Err why) torn ended = tt
-poll_refused may_end may_refuse may_tear setting steps tear (Some step) None new (Err why) torn ended = tt
-poll_refused may_end may_refuse may_tear setting steps tear (Some step) (Some flash) new (Err why) torn ended = (torn.0, torn.1, torn.2, inr (steps, why, inr ended))
+poll_refused may_end may_refuse may_tear setting steps tear (Some step) None new
+    (Err why) torn ended = tt
+poll_refused may_end may_refuse may_tear setting steps tear (Some step) (Some flash) new
+    (Err why) torn ended = (torn.0, torn.1, torn.2, inr (steps, why, inr ended))
 
 -- and ends it as the setting inside allows
-pub poll_ended : {S : Type 0} (may_end : S → ℕ → StepEnd → Type 0) (may_refuse : S → ℕ → NorFault → Type 0) (set : CutSetting S) (steps n : ℕ) (r : Result Ready NorFault)
-    → IfErr r (λ why. may_end set.inner steps (end_by why)) → IfErr r (λ why. CutMayEnd may_end may_refuse set n (end_by why))
+pub poll_ended : {S : Type 0} (may_end : S → ℕ → StepEnd → Type 0)
+    (may_refuse : S → ℕ → NorFault → Type 0) (set : CutSetting S) (steps n : ℕ)
+    (r : Result Ready NorFault)
+    → IfErr r (λ why. may_end set.inner steps (end_by why))
+    → IfErr r (λ why. CutMayEnd may_end may_refuse set n (end_by why))
 poll_ended may_end may_refuse set steps n (Ok x) ended = ended
-poll_ended may_end may_refuse set steps n (Err why) ended = inr ((steps, why, inr ended), (why, refl))
+poll_ended may_end may_refuse set steps n (Err why) ended =
+    inr ((steps, why, inr ended), (why, refl))

@@ -55,7 +55,12 @@ unspent_of (Some chosen) n = if nat_lt n chosen then Some chosen else None
 
 -- with the power on again, and a number that has come spent
 abbrev pub restarted : {D : Type 0} → CutDevice D → CutDevice D
-restarted device = record device { cut = unspent_of device.cut device.steps; fail = unspent_of device.fail device.steps; health = Sound }
+restarted device = record device {
+  cut = unspent_of device.cut device.steps;
+  fail = unspent_of device.fail device.steps;
+  health =
+      Sound;
+}
 
 -- the step that runs: the one that is to be torn, or that of the device inside
 abbrev pub running_by : Health → Option Step → Option Step
@@ -84,8 +89,10 @@ health_by faults.Off = Off
 health_by faults.Failed = Failed
 
 -- a device of this setting may refuse a call
-abbrev pub MayRefuse : {S : Type 0} → (S → ℕ → StepEnd → Type 0) → (S → ℕ → NorFault → Type 0) → S → Type 0
-MayRefuse may_end may_refuse setting = (n : ℕ) × (why : NorFault) × (may_refuse setting n why ⊎ may_end setting n (end_by why))
+abbrev pub MayRefuse : {S : Type 0} → (S → ℕ → StepEnd → Type 0) → (S → ℕ → NorFault → Type 0) → S
+    → Type 0
+MayRefuse may_end may_refuse setting =
+    (n : ℕ) × (why : NorFault) × (may_refuse setting n why ⊎ may_end setting n (end_by why))
 
 -- how the step of this number ends by the choice: whole before the chosen one, and then no more
 abbrev pub EndsBy : Option ℕ → Option ℕ → ℕ → StepEnd → Type 0
@@ -94,13 +101,17 @@ EndsBy cut fail n ends.Cut = cut ≡ Some n
 EndsBy cut fail n ends.Failed = fail ≡ Some n
 
 -- tearing a step leaves the flash that the tear number names, or any torn one where the device may refuse a call
-abbrev pub TearLeaves : {S : Type 0} → (S → ℕ → StepEnd → Type 0) → (S → ℕ → NorFault → Type 0) → S → ℕ → List ℕ → Step → List ℕ → Type 0
-TearLeaves may_end may_refuse setting tear flash step left = (left ≡ torn_by flash step tear) ⊎ MayRefuse may_end may_refuse setting
+abbrev pub TearLeaves : {S : Type 0} → (S → ℕ → StepEnd → Type 0) → (S → ℕ → NorFault → Type 0) → S
+    → ℕ → List ℕ → Step → List ℕ → Type 0
+TearLeaves may_end may_refuse setting tear flash step left = (left ≡ torn_by flash step tear)
+    ⊎ MayRefuse may_end may_refuse setting
 
-module _ {S : Type 0} (may_end : S → ℕ → StepEnd → Type 0) (may_refuse : S → ℕ → NorFault → Type 0) where
+module _ {S : Type 0} (may_end : S → ℕ → StepEnd → Type 0)
+    (may_refuse : S → ℕ → NorFault → Type 0) where
   -- a step ends by the choice, or badly where the device inside may refuse a call
   abbrev pub CutMayEnd : CutSetting S → ℕ → StepEnd → Type 0
-  CutMayEnd set n end = EndsBy set.cut set.fail n end ⊎ (MayRefuse may_end may_refuse set.inner × ((why : NorFault) × (end ≡ end_by why)))
+  CutMayEnd set n end = EndsBy set.cut set.fail n end
+      ⊎ (MayRefuse may_end may_refuse set.inner × ((why : NorFault) × (end ≡ end_by why)))
 
   -- a refused poll leaves what tearing the step leaves
   abbrev pub CutMayTear : CutSetting S → ℕ → List ℕ → Step → List ℕ → Type 0
@@ -108,31 +119,37 @@ module _ {S : Type 0} (may_end : S → ℕ → StepEnd → Type 0) (may_refuse :
 
   -- a call is refused as the chosen step was that ended badly, or where the device inside may refuse one
   abbrev pub CutMayRefuse : CutSetting S → ℕ → NorFault → Type 0
-  CutMayRefuse set n why = EndsBy set.cut set.fail n (end_by why) ⊎ MayRefuse may_end may_refuse set.inner
+  CutMayRefuse set n why = EndsBy set.cut set.fail n (end_by why)
+      ⊎ MayRefuse may_end may_refuse set.inner
 
 -- where the device tells its bytes, they are those that the tear number names
 abbrev pub IsTornByNumber : Step → ℕ → Option (List ℕ) → Option (List ℕ) → Type 0
 IsTornByNumber step tear old new = IfSome old (λ flash. new ≡ Some (torn_by flash step tear))
 
 -- a step is due to be torn: it lies inside, its number is the chosen one, and inside no step runs
-pub record IsDue {D : Type 0} (running : D → Option Step) (size : D → ℕ) (device : CutDevice D) (step : Step) : Type 0 where
+pub record IsDue {D : Type 0} (running : D → Option Step) (size : D → ℕ) (device : CutDevice D)
+    (step : Step) : Type 0 where
   pub idle : running device.inner ≡ None
   pub paged : IsInOnePage step
   pub small : end_of step ≤ 2 ^ 32
   pub inside : end_of step ≤ size device.inner
   pub bad : IsBad device.cut device.fail device.steps
 
-module _ {D S : Type 0} (running : D → Option Step) (size : D → ℕ) (off : D → Bool) (setting : D → S) (may_end : S → ℕ → StepEnd → Type 0) (may_refuse : S → ℕ → NorFault → Type 0) where
+module _ {D S : Type 0} (running : D → Option Step) (size : D → ℕ) (off : D → Bool)
+    (setting : D → S) (may_end : S → ℕ → StepEnd → Type 0)
+    (may_refuse : S → ℕ → NorFault → Type 0) where
   -- calls are refused so, as the chosen step was, or as the device inside refused a call in it
   abbrev pub IsRefusing : CutDevice D → NorFault → Type 0
-  IsRefusing device why = EndsBy device.cut device.fail device.steps (end_by why) ⊎ MayRefuse may_end may_refuse (setting device.inner)
+  IsRefusing device why = EndsBy device.cut device.fail device.steps (end_by why)
+      ⊎ MayRefuse may_end may_refuse (setting device.inner)
 
   -- what holds by how the device is: the chosen number is to come, is that of the step that runs, or has come
   abbrev pub StandsAs : CutDevice D → Health → Type 0
   StandsAs device Sound = IsAhead device.cut device.steps × IsAhead device.fail device.steps
   StandsAs device (Due step) = IsDue running size device step
   StandsAs device Off = (running device.inner ≡ None) × IsRefusing device faults.Off
-  StandsAs device Failed = (running device.inner ≡ None) × IsRefusing device faults.Failed × (off device.inner ≡ false)
+  StandsAs device Failed =
+      (running device.inner ≡ None) × IsRefusing device faults.Failed × (off device.inner ≡ false)
 
   -- what holds of every such device
   pub record IsCut (device : CutDevice D) : Type 0 where

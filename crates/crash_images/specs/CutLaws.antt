@@ -16,22 +16,50 @@ never_done : (why : NorFault) → end_by why ≡ ends.Done → ⊥
 never_done faults.Failed is = cc is
 never_done faults.Off is = cc is
 
-module _ (may_end : Unit {0} → ℕ → StepEnd → Type 0) (may_refuse : Unit {0} → ℕ → NorFault → Type 0) (only_done : (set : Unit {0}) (n : ℕ) (end : StepEnd) → may_end set n end → end ≡ ends.Done) (none : (set : Unit {0}) (n : ℕ) (why : NorFault) → may_refuse set n why → ⊥) where
+module _ (may_end : Unit {0} → ℕ → StepEnd → Type 0) (may_refuse : Unit {0} → ℕ → NorFault → Type 0)
+    (only_done : (set : Unit {0}) (n : ℕ) (end : StepEnd) → may_end set n end → end ≡ ends.Done)
+    (none : (set : Unit {0}) (n : ℕ) (why : NorFault) → may_refuse set n why → ⊥) where
   -- where each step is done and no call is refused, none may be
   none_refused : (set : Unit {0}) → MayRefuse may_end may_refuse set → ⊥
-  none_refused set may = elim may.2 [ inl refused ↦ none set may.0 may.1 refused | inr ended ↦ never_done may.1 (only_done set may.0 (end_by may.1) ended) ]
+  none_refused set may =
+      elim may.2 [
+        | inl refused ↦ none set may.0 may.1 refused
+        | inr ended ↦ never_done may.1
+            (only_done set may.0 (end_by may.1) ended)
+      ]
 
   -- so steps end by the choice alone
-  pub chosen_ends : (set : CutSetting (Unit {0})) (n : ℕ) (end : StepEnd) → CutMayEnd may_end may_refuse set n end ↔ EndsBy set.cut set.fail n end
-  chosen_ends set n end = (λ may. elim may [ inl chosen ↦ chosen | inr inside ↦ absurd (none_refused set.inner inside.0) ], λ chosen. inl chosen)
+  pub chosen_ends : (set : CutSetting (Unit {0})) (n : ℕ) (end : StepEnd)
+      → CutMayEnd may_end may_refuse set n end ↔ EndsBy set.cut set.fail n end
+  chosen_ends set n end = (
+    λ may. elim may [
+      | inl chosen ↦ chosen
+      | inr inside ↦ absurd
+          (none_refused set.inner inside.0)
+    ],
+    λ chosen. inl chosen,
+  )
 
   -- a torn step leaves the flash of the tear number alone
-  pub chosen_tears : (set : CutSetting (Unit {0})) (n : ℕ) (flash : List ℕ) (step : Step) (left : List ℕ) → CutMayTear may_end may_refuse set n flash step left ↔ (left ≡ torn_by flash step set.tear)
-  chosen_tears set n flash step left = (λ may. elim may [ inl is ↦ is | inr inside ↦ absurd (none_refused set.inner inside) ], λ is. inl is)
+  pub chosen_tears : (set : CutSetting (Unit {0})) (n : ℕ) (flash : List ℕ) (step : Step)
+      (left : List ℕ) → CutMayTear may_end may_refuse set n flash step left
+      ↔ (left ≡ torn_by flash step set.tear)
+  chosen_tears set n flash step left = (
+    λ may. elim may [ inl is ↦ is | inr inside ↦ absurd (none_refused set.inner inside) ],
+    λ is. inl is,
+  )
 
   -- and calls are refused by the choice alone
-  pub chosen_refuses : (set : CutSetting (Unit {0})) (n : ℕ) (why : NorFault) → CutMayRefuse may_end may_refuse set n why ↔ EndsBy set.cut set.fail n (end_by why)
-  chosen_refuses set n why = (λ may. elim may [ inl chosen ↦ chosen | inr inside ↦ absurd (none_refused set.inner inside) ], λ chosen. inl chosen)
+  pub chosen_refuses : (set : CutSetting (Unit {0})) (n : ℕ) (why : NorFault)
+      → CutMayRefuse may_end may_refuse set n why ↔ EndsBy set.cut set.fail n (end_by why)
+  chosen_refuses set n why = (
+    λ may. elim may [
+      | inl chosen ↦ chosen
+      | inr inside ↦ absurd
+          (none_refused set.inner inside)
+    ],
+    λ chosen. inl chosen,
+  )
 
 -- a number that is still to come is not this one
 ahead_other : (chosen : Option ℕ) (n : ℕ) → IsAhead chosen n → chosen ≡ Some n → ⊥
@@ -39,7 +67,8 @@ ahead_other None n ahead is = cc is
 ahead_other (Some k) n ahead is = let same : k ≡ n = cc is in absurd (omega arith)
 
 -- nor an earlier one
-ahead_later : (chosen : Option ℕ) (n behind : ℕ) → n < behind → IsAhead chosen behind → chosen ≡ Some n → ⊥
+ahead_later : (chosen : Option ℕ) (n behind : ℕ) → n < behind → IsAhead chosen behind
+    → chosen ≡ Some n → ⊥
 ahead_later None n behind less ahead is = cc is
 ahead_later (Some k) n behind less ahead is = let same : k ≡ n = cc is in absurd (omega arith)
 
@@ -49,11 +78,14 @@ not_two cut fail n m (inl none) is_cut is_fail = cc (none, is_cut)
 not_two cut fail n m (inr none) is_cut is_fail = cc (none, is_fail)
 
 -- one number is not two
-not_later : (chosen : Option ℕ) (n behind : ℕ) → n < behind → chosen ≡ Some n → chosen ≡ Some behind → ⊥
-not_later chosen n behind less first second = let same : n ≡ behind = cc (first, second) in absurd (omega arith)
+not_later : (chosen : Option ℕ) (n behind : ℕ) → n < behind → chosen ≡ Some n → chosen ≡ Some behind
+    → ⊥
+not_later chosen n behind less first second = let same : n ≡ behind =
+    cc (first, second) in absurd (omega arith)
 
 -- no step number has two ends
-pub one_end : (cut fail : Option ℕ) (n : ℕ) (end other : StepEnd) → NotBoth cut fail → EndsBy cut fail n end → EndsBy cut fail n other → end ≡ other
+pub one_end : (cut fail : Option ℕ) (n : ℕ) (end other : StepEnd) → NotBoth cut fail
+    → EndsBy cut fail n end → EndsBy cut fail n other → end ≡ other
 one_end cut fail n ends.Done ends.Done one a b = refl
 one_end cut fail n ends.Done ends.Cut one a b = absurd (ahead_other cut n a.0 b)
 one_end cut fail n ends.Done ends.Failed one a b = absurd (ahead_other fail n a.1 b)
@@ -65,10 +97,17 @@ one_end cut fail n ends.Failed ends.Cut one a b = absurd (not_two cut fail n n o
 one_end cut fail n ends.Failed ends.Failed one a b = refl
 
 -- none behind the chosen one has any
-pub no_end_behind : (cut fail : Option ℕ) (n behind : ℕ) (end : StepEnd) → NotBoth cut fail → IsBad cut fail n → n < behind → EndsBy cut fail behind end → ⊥
-no_end_behind cut fail n behind ends.Done one (inl is) less stands = ahead_later cut n behind less stands.0 is
-no_end_behind cut fail n behind ends.Done one (inr is) less stands = ahead_later fail n behind less stands.1 is
-no_end_behind cut fail n behind ends.Cut one (inl is) less stands = not_later cut n behind less is stands
-no_end_behind cut fail n behind ends.Cut one (inr is) less stands = not_two cut fail behind n one stands is
-no_end_behind cut fail n behind ends.Failed one (inl is) less stands = not_two cut fail n behind one is stands
-no_end_behind cut fail n behind ends.Failed one (inr is) less stands = not_later fail n behind less is stands
+pub no_end_behind : (cut fail : Option ℕ) (n behind : ℕ) (end : StepEnd) → NotBoth cut fail
+    → IsBad cut fail n → n < behind → EndsBy cut fail behind end → ⊥
+no_end_behind cut fail n behind ends.Done one (inl is) less stands =
+    ahead_later cut n behind less stands.0 is
+no_end_behind cut fail n behind ends.Done one (inr is) less stands =
+    ahead_later fail n behind less stands.1 is
+no_end_behind cut fail n behind ends.Cut one (inl is) less stands =
+    not_later cut n behind less is stands
+no_end_behind cut fail n behind ends.Cut one (inr is) less stands =
+    not_two cut fail behind n one stands is
+no_end_behind cut fail n behind ends.Failed one (inl is) less stands =
+    not_two cut fail n behind one is stands
+no_end_behind cut fail n behind ends.Failed one (inr is) less stands =
+    not_later fail n behind less is stands

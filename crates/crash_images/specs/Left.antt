@@ -27,9 +27,13 @@ pub record LeftAfter (flash : List ℕ) (steps : List Step) (left : List ℕ) : 
   pub stands : (left ≡ after_steps flash made) ⊎ TornByFirst (after_steps flash made) rest left
 
 -- where no step runs, a loss of power leaves the bytes
-pub idle_leaves : (told : Option (List ℕ)) (running : Option Step) (flash left : List ℕ) → running ≡ None → told ≡ Some flash → MayLeave told running left ↔ (left ≡ flash)
+pub idle_leaves : (told : Option (List ℕ)) (running : Option Step) (flash left : List ℕ)
+    → running ≡ None → told ≡ Some flash → MayLeave told running left ↔ (left ≡ flash)
 idle_leaves told running flash left idle is = rw (is, idle) (record { 0 = λ h. h; 1 = λ h. h })
 
 -- where one runs, every flash that is torn by it
-pub running_leaves : (told : Option (List ℕ)) (running : Option Step) (step : Step) (flash left : List ℕ) → running ≡ Some step → told ≡ Some flash → MayLeave told running left ↔ Torn flash step left
-running_leaves told running step flash left runs is = rw (is, runs) (record { 0 = λ h. h; 1 = λ h. h })
+pub running_leaves : (told : Option (List ℕ)) (running : Option Step) (step : Step)
+    (flash left : List ℕ) → running ≡ Some step → told ≡ Some flash → MayLeave told running left
+    ↔ Torn flash step left
+running_leaves told running step flash left runs is =
+    rw (is, runs) (record { 0 = λ h. h; 1 = λ h. h })

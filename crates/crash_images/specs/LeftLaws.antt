@@ -13,15 +13,20 @@ pub left_begin : (flash : List ℕ) (steps : List Step) → LeftAfter flash step
 left_begin flash steps = record { made = []; rest = steps; split = refl; stands = inl refl }
 
 -- behind the last
-pub left_end : (flash : List ℕ) (steps : List Step) → LeftAfter flash steps (after_steps flash steps)
-left_end flash steps = record { made = steps; rest = []; split = sym (append-nil steps); stands = inl refl }
+pub left_end : (flash : List ℕ) (steps : List Step)
+    → LeftAfter flash steps (after_steps flash steps)
+left_end flash steps =
+    record { made = steps; rest = []; split = sym (append-nil steps); stands = inl refl }
 
 -- within the first step
-pub left_torn : (flash : List ℕ) (step : Step) (steps : List Step) (left : List ℕ) → Torn flash step left → LeftAfter flash (step ∷ steps) left
-left_torn flash step steps left torn = record { made = []; rest = step ∷ steps; split = refl; stands = inr torn }
+pub left_torn : (flash : List ℕ) (step : Step) (steps : List Step) (left : List ℕ)
+    → Torn flash step left → LeftAfter flash (step ∷ steps) left
+left_torn flash step steps left torn =
+    record { made = []; rest = step ∷ steps; split = refl; stands = inr torn }
 
 -- behind the first step
-pub left_more : (flash : List ℕ) (step : Step) (steps : List Step) (left : List ℕ) → LeftAfter (applied flash step) steps left → LeftAfter flash (step ∷ steps) left
+pub left_more : (flash : List ℕ) (step : Step) (steps : List Step) (left : List ℕ)
+    → LeftAfter (applied flash step) steps left → LeftAfter flash (step ∷ steps) left
 left_more flash step steps left after = record {
   made = step ∷ after.made;
   rest = after.rest;
@@ -33,20 +38,26 @@ left_more flash step steps left after = record {
 pub left_none : (flash left : List ℕ) → LeftAfter flash [] left → left ≡ flash
 left_none flash left after = none flash left after.made after.rest after.split after.stands
   where
-    none : (f l : List ℕ) (made rest : List Step) → [] ≡ made ++ rest → (l ≡ after_steps f made) ⊎ TornByFirst (after_steps f made) rest l → l ≡ f
+    none : (f l : List ℕ) (made rest : List Step) → [] ≡ made ++ rest
+        → (l ≡ after_steps f made) ⊎ TornByFirst (after_steps f made) rest l → l ≡ f
     none f l [] [] split (inl is) = is
     none f l [] [] split (inr torn) = absurd torn
     none f l [] (s ∷ rest) split stands = absurd (cc split)
     none f l (s ∷ made) rest split stands = absurd (cc split)
 
 -- else power was lost before the first step, within it, or behind it
-pub left_cases : (flash : List ℕ) (step : Step) (steps : List Step) (left : List ℕ) → LeftAfter flash (step ∷ steps) left → (left ≡ flash) ⊎ (Torn flash step left ⊎ LeftAfter (applied flash step) steps left)
+pub left_cases : (flash : List ℕ) (step : Step) (steps : List Step) (left : List ℕ)
+    → LeftAfter flash (step ∷ steps) left
+    → (left ≡ flash) ⊎ (Torn flash step left ⊎ LeftAfter (applied flash step) steps left)
 left_cases flash step steps left after = cases after.made after.rest after.split after.stands
   where
-    cases : (made rest : List Step) → step ∷ steps ≡ made ++ rest → (left ≡ after_steps flash made) ⊎ TornByFirst (after_steps flash made) rest left → (left ≡ flash) ⊎ (Torn flash step left ⊎ LeftAfter (applied flash step) steps left)
+    cases : (made rest : List Step) → step ∷ steps ≡ made ++ rest
+        → (left ≡ after_steps flash made) ⊎ TornByFirst (after_steps flash made) rest left
+        → (left ≡ flash) ⊎ (Torn flash step left ⊎ LeftAfter (applied flash step) steps left)
     cases [] rest split (inl is) = inl is
     cases [] [] split (inr torn) = absurd torn
-    cases [] (s ∷ rest) split (inr torn) = let same : s ≡ step = cc split in inr (inl (subst (λ (x : Step). Torn flash x left) same torn))
+    cases [] (s ∷ rest) split (inr torn) = let same : s ≡ step =
+        cc split in inr (inl (subst (λ (x : Step). Torn flash x left) same torn))
     cases (s ∷ made) rest split stands =
         let same : s ≡ step = cc split in
         let tail : steps ≡ made ++ rest = cc split in
@@ -54,11 +65,13 @@ left_cases flash step steps left after = cases after.made after.rest after.split
           made = made;
           rest = rest;
           split = tail;
-          stands = subst (λ (x : Step). (left ≡ after_steps (applied flash x) made) ⊎ TornByFirst (after_steps (applied flash x) made) rest left) same stands;
+          stands = subst (λ (x : Step). (left ≡ after_steps (applied flash x) made)
+              ⊎ TornByFirst (after_steps (applied flash x) made) rest left) same stands;
         }))
 
 -- what may be left of some steps may be left where others follow
-pub left_front : (flash : List ℕ) (front back : List Step) (left : List ℕ) → LeftAfter flash front left → LeftAfter flash (front ++ back) left
+pub left_front : (flash : List ℕ) (front back : List Step) (left : List ℕ)
+    → LeftAfter flash front left → LeftAfter flash (front ++ back) left
 left_front flash front back left after = record {
   made = after.made;
   rest = after.rest ++ back;
@@ -66,30 +79,41 @@ left_front flash front back left after = record {
   stands = longer after.rest after.stands;
 }
   where
-    longer : (rest : List Step) → (left ≡ after_steps flash after.made) ⊎ TornByFirst (after_steps flash after.made) rest left → (left ≡ after_steps flash after.made) ⊎ TornByFirst (after_steps flash after.made) (rest ++ back) left
+    longer : (rest : List Step)
+        → (left ≡ after_steps flash after.made)
+        ⊎ TornByFirst (after_steps flash after.made) rest left
+        → (left ≡ after_steps flash after.made)
+        ⊎ TornByFirst (after_steps flash after.made) (rest ++ back) left
     longer rest (inl is) = inl is
     longer [] (inr torn) = absurd torn
     longer (s ∷ rest) (inr torn) = inr torn
 
 -- and where others went before
-pub left_back : (flash : List ℕ) (front back : List Step) (left : List ℕ) → LeftAfter (after_steps flash front) back left → LeftAfter flash (front ++ back) left
+pub left_back : (flash : List ℕ) (front back : List Step) (left : List ℕ)
+    → LeftAfter (after_steps flash front) back left → LeftAfter flash (front ++ back) left
 left_back flash front back left after = record {
   made = front ++ after.made;
   rest = after.rest;
-  split = ap (λ (l : List Step). front ++ l) after.split ∙ sym (append_assoc front after.made after.rest);
-  stands = subst (λ (f : List ℕ). (left ≡ f) ⊎ TornByFirst f after.rest left) (sym (after_steps_append flash front after.made)) after.stands;
+  split = ap (λ (l : List Step). front ++ l) after.split
+      ∙ sym (append_assoc front after.made after.rest);
+  stands = subst (λ (f : List ℕ). (left ≡ f) ⊎ TornByFirst f after.rest left)
+      (sym (after_steps_append flash front after.made)) after.stands;
 }
 
 -- of a longer list nothing else may be left
-pub left_append : (flash : List ℕ) (front back : List Step) (left : List ℕ) → LeftAfter flash (front ++ back) left → LeftAfter flash front left ⊎ LeftAfter (after_steps flash front) back left
+pub left_append : (flash : List ℕ) (front back : List Step) (left : List ℕ)
+    → LeftAfter flash (front ++ back) left
+    → LeftAfter flash front left ⊎ LeftAfter (after_steps flash front) back left
 left_append flash [] back left after = inr after
-left_append flash (step ∷ front) back left after = elim (left_cases flash step (front ++ back) left after) [
-  | inl is ↦ inl (subst (λ (f : List ℕ). LeftAfter flash (step ∷ front) f) (sym is) (left_begin flash (step ∷ front)))
-  | inr more ↦ elim more [
-    | inl torn ↦ inl (left_torn flash step front left torn)
-    | inr behind ↦ elim (left_append (applied flash step) front back left behind) [
-      | inl in_front ↦ inl (left_more flash step front left in_front)
-      | inr in_back ↦ inr in_back
+left_append flash (step ∷ front) back left after =
+    elim (left_cases flash step (front ++ back) left after) [
+      | inl is ↦ inl (subst (λ (f : List ℕ). LeftAfter flash (step ∷ front) f) (sym is)
+          (left_begin flash (step ∷ front)))
+      | inr more ↦ elim more [
+        | inl torn ↦ inl (left_torn flash step front left torn)
+        | inr behind ↦ elim (left_append (applied flash step) front back left behind) [
+          | inl in_front ↦ inl (left_more flash step front left in_front)
+          | inr in_back ↦ inr in_back
+        ]
+      ]
     ]
-  ]
-]

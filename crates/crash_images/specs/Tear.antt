@@ -22,11 +22,13 @@ window_end tear = tear / 4294967296 % 65536
 
 -- the mask of the i-th byte of the step's range
 abbrev pub mask_at : ℕ → ℕ → ℕ
-mask_at tear i = if nat_le (window_start tear) i && nat_lt i (window_end tear) then window_mask tear else other_mask tear
+mask_at tear i = if nat_le (window_start tear) i && nat_lt i
+    (window_end tear) then window_mask tear else other_mask tear
 
 -- the torn byte: an erase has set the bits of the mask, and a program has not cleared them
 abbrev pub torn_byte_of : ℕ → ℕ → Bool → ℕ → ℕ → ℕ
-torn_byte_of old new erase tear i = if erase then bit_or old (mask_at tear i) else bit_and old (bit_or new (mask_at tear i))
+torn_byte_of old new erase tear i =
+    if erase then bit_or old (mask_at tear i) else bit_and old (bit_or new (mask_at tear i))
 
 -- the bytes, from the i-th on, with the bits of their masks set
 abbrev pub masked : ℕ → ℕ → List ℕ → List ℕ
@@ -40,7 +42,10 @@ torn_part (Program at page) tear part = anded part (masked tear 0 page)
 
 -- what is left of the flash: its range is torn by the number, and all else is as before
 abbrev pub torn_by : List ℕ → Step → ℕ → List ℕ
-torn_by flash step tear = take (start_of step) flash ++ torn_part step tear (take (len_of step) (drop (start_of step) flash)) ++ drop (end_of step) flash
+torn_by flash step tear =
+    take (start_of step) flash
+    ++ torn_part step tear (take (len_of step) (drop (start_of step) flash))
+    ++ drop (end_of step) flash
 
 -- the step sets bits
 abbrev pub is_erase : Step → Bool

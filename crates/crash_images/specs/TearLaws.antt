@@ -19,86 +19,121 @@ length_masked tear i [] = refl
 length_masked tear i (byte ∷ bytes) = omega (arith, length_masked tear (i + 1) bytes)
 
 -- each byte has the bits of its mask set
-pub get_or-masked : (tear i : ℕ) (bytes : List ℕ) (k : ℕ) → k < length bytes → get_or (masked tear i bytes) k 0 ≡ bit_or (get_or bytes k 0) (mask_at tear (i + k))
+pub get_or-masked : (tear i : ℕ) (bytes : List ℕ) (k : ℕ) → k < length bytes
+    → get_or (masked tear i bytes) k 0 ≡ bit_or (get_or bytes k 0) (mask_at tear (i + k))
 get_or-masked tear i [] k inside = absurd (omega arith)
-get_or-masked tear i (byte ∷ bytes) zero inside = ap (λ (n : ℕ). bit_or byte (mask_at tear n)) (sym (add-zero i))
+get_or-masked tear i (byte ∷ bytes) zero inside =
+    ap (λ (n : ℕ). bit_or byte (mask_at tear n)) (sym (add-zero i))
 get_or-masked tear i (byte ∷ bytes) (suc k) inside =
     let next : i + 1 + k ≡ i + suc k = omega arith in
-    get_or-masked tear (i + 1) bytes k (omega arith) ∙ ap (λ (n : ℕ). bit_or (get_or bytes k 0) (mask_at tear n)) next
+    get_or-masked tear (i + 1) bytes k (omega arith)
+    ∙ ap (λ (n : ℕ). bit_or (get_or bytes k 0) (mask_at tear n)) next
 
 -- a tear keeps the length of what it changes
-pub length-torn_part : (step : Step) (tear : ℕ) (part : List ℕ) → length (torn_part step tear part) ≡ length part
+pub length-torn_part : (step : Step) (tear : ℕ) (part : List ℕ)
+    → length (torn_part step tear part) ≡ length part
 length-torn_part (Erase sector) tear part = length_masked tear 0 part
 length-torn_part (Program at page) tear part = length-anded part (masked tear 0 page)
 
 -- and makes of each byte of it the torn byte
-pub get_or-torn_part : (step : Step) (tear : ℕ) (part : List ℕ) (k : ℕ) → k < length part → k < len_of step → get_or (torn_part step tear part) k 0 ≡ torn_byte_of (get_or part k 0) (data_byte_of step k) (is_erase step) tear k
-get_or-torn_part (Erase sector) tear part k in_part in_range = get_or-masked tear 0 part k in_part ∙ ap (λ (n : ℕ). bit_or (get_or part k 0) (mask_at tear n)) (zero-add k)
+pub get_or-torn_part : (step : Step) (tear : ℕ) (part : List ℕ) (k : ℕ) → k < length part
+    → k < len_of step → get_or (torn_part step tear part) k 0
+    ≡ torn_byte_of (get_or part k 0) (data_byte_of step k) (is_erase step) tear k
+get_or-torn_part (Erase sector) tear part k in_part in_range = get_or-masked tear 0 part k in_part
+    ∙ ap (λ (n : ℕ). bit_or (get_or part k 0) (mask_at tear n)) (zero-add k)
 get_or-torn_part (Program at page) tear part k in_part in_range =
     let there : k < length (masked tear 0 page) = omega (arith, length_masked tear 0 page) in
-    get_or-anded part (masked tear 0 page) k in_part there ∙ ap (λ (x : ℕ). bit_and (get_or part k 0) x) (get_or-masked tear 0 page k in_range ∙ ap (λ (n : ℕ). bit_or (get_or page k 0) (mask_at tear n)) (zero-add k))
+    get_or-anded part (masked tear 0 page) k in_part there
+    ∙ ap (λ (x : ℕ). bit_and (get_or part k 0) x)
+    (get_or-masked tear 0 page k in_range
+    ∙ ap (λ (n : ℕ). bit_or (get_or page k 0) (mask_at tear n)) (zero-add k))
 
 -- the flash keeps its length
-pub length_torn_by : (flash : List ℕ) (step : Step) (tear : ℕ) → length (torn_by flash step tear) ≡ length flash
-length_torn_by flash step tear = length-spliced flash (start_of step) (len_of step) _ (length-torn_part step tear (take (len_of step) (drop (start_of step) flash)))
+pub length_torn_by : (flash : List ℕ) (step : Step) (tear : ℕ)
+    → length (torn_by flash step tear) ≡ length flash
+length_torn_by flash step tear =
+    length-spliced flash (start_of step) (len_of step) _
+    (length-torn_part step tear (take (len_of step) (drop (start_of step) flash)))
 
 -- in the range stands the torn byte
-pub torn_by_inside : (flash : List ℕ) (step : Step) (tear i : ℕ) → i < length flash → start_of step ≤ i → i < end_of step
-    → slice_index (torn_by flash step tear) i ≡ torn_byte_of (slice_index flash i) (data_byte_of step (i - start_of step)) (is_erase step) tear (i - start_of step)
+pub torn_by_inside : (flash : List ℕ) (step : Step) (tear i : ℕ) → i < length flash
+    → start_of step ≤ i → i < end_of step
+    → slice_index (torn_by flash step tear) i
+    ≡ torn_byte_of (slice_index flash i) (data_byte_of step (i - start_of step))
+    (is_erase step) tear (i - start_of step)
 torn_by_inside flash step tear i inside from to =
     let start = start_of step in
     let len = len_of step in
     let part = take len (drop start flash) in
     let same = length-torn_part step tear part in
-    let in_part : i - start < length part = omega (arith, length-take len (drop start flash), length-drop start flash) in
+    let in_part : i - start < length part =
+    omega (arith, length-take len (drop start flash), length-drop start flash) in
     let in_range : i - start < len = omega arith in
     spliced_within flash start len (torn_part step tear part) same i from to inside
     ∙ get_or-torn_part step tear part (i - start) in_part in_range
-    ∙ ap (λ (b : ℕ). torn_byte_of b (data_byte_of step (i - start)) (is_erase step) tear (i - start)) (part_byte flash start len (torn_part step tear part) same i from to)
+    ∙ ap (λ (b : ℕ). torn_byte_of b (data_byte_of step (i - start)) (is_erase step) tear
+    (i - start)) (part_byte flash start len (torn_part step tear part) same i from to)
 
 -- outside it nothing changed
-pub torn_by_outside : (flash : List ℕ) (step : Step) (tear i : ℕ) → i < length flash → (i < start_of step) ⊎ (end_of step ≤ i) → slice_index (torn_by flash step tear) i ≡ slice_index flash i
+pub torn_by_outside : (flash : List ℕ) (step : Step) (tear i : ℕ) → i < length flash
+    → (i < start_of step) ⊎ (end_of step ≤ i)
+    → slice_index (torn_by flash step tear) i ≡ slice_index flash i
 torn_by_outside flash step tear i inside (inl low) =
     let part = take (len_of step) (drop (start_of step) flash) in
-    spliced_below flash (start_of step) (len_of step) (torn_part step tear part) (length-torn_part step tear part) i low inside
+    spliced_below flash (start_of step) (len_of step) (torn_part step tear part)
+    (length-torn_part step tear part) i low inside
 torn_by_outside flash step tear i inside (inr high) =
     let part = take (len_of step) (drop (start_of step) flash) in
-    spliced_above flash (start_of step) (len_of step) (torn_part step tear part) (length-torn_part step tear part) i high inside
+    spliced_above flash (start_of step) (len_of step) (torn_part step tear part)
+    (length-torn_part step tear part) i high inside
 
 -- a program that clears fewer bits and is cut short is the program cut short
-torn_program_weaker : (data_byte mask old new : ℕ) → IsTornProgram (bit_or data_byte mask) old new → IsTornProgram data_byte old new
+torn_program_weaker : (data_byte mask old new : ℕ) → IsTornProgram (bit_or data_byte mask) old new
+    → IsTornProgram data_byte old new
 torn_program_weaker data_byte mask old new torn = record {
   sets_none = torn.sets_none;
-  keeps = sym (ap (λ (x : ℕ). bit_and (bit_and new old) x) fewer) ∙ sym (and_assoc data_byte (bit_and new old) (bit_or data_byte mask)) ∙ ap (λ (x : ℕ). bit_and x data_byte) torn.keeps ∙ and_assoc data_byte old (bit_or data_byte mask) ∙ ap (λ (x : ℕ). bit_and old x) fewer;
+  keeps = sym (ap (λ (x : ℕ). bit_and (bit_and new old) x) fewer)
+      ∙ sym (and_assoc data_byte (bit_and new old) (bit_or data_byte mask))
+      ∙ ap (λ (x : ℕ). bit_and x data_byte) torn.keeps
+      ∙ and_assoc data_byte old (bit_or data_byte mask) ∙ ap (λ (x : ℕ). bit_and old x) fewer;
 }
   where
     fewer : bit_and (bit_or data_byte mask) data_byte ≡ data_byte
-    fewer = ap (λ (x : ℕ). bit_and x data_byte) (or_comm data_byte mask) ∙ and_or_self data_byte mask
+    fewer = ap (λ (x : ℕ). bit_and x data_byte) (or_comm data_byte mask)
+        ∙ and_or_self data_byte mask
 
 -- the torn byte is one of those that a torn step may leave
-torn_byte_of_torn : (step : Step) (tear k old : ℕ) → IsTornByte step k old (torn_byte_of old (data_byte_of step k) (is_erase step) tear k)
+torn_byte_of_torn : (step : Step) (tear k old : ℕ)
+    → IsTornByte step k old (torn_byte_of old (data_byte_of step k) (is_erase step) tear k)
 torn_byte_of_torn (Erase sector) tear k old = tt
 torn_byte_of_torn (Program at page) tear k old =
-    torn_program_weaker (slice_index page k) (mask_at tear k) old _ (torn_program_made (bit_or (slice_index page k) (mask_at tear k)) old)
+    torn_program_weaker (slice_index page k) (mask_at tear k) old _
+    (torn_program_made (bit_or (slice_index page k) (mask_at tear k)) old)
 
 -- the flash that a tear number names is a torn one
-pub tear_is_torn : (flash : List ℕ) (step : Step) (tear : ℕ) → Torn flash step (torn_by flash step tear)
+pub tear_is_torn : (flash : List ℕ) (step : Step) (tear : ℕ)
+    → Torn flash step (torn_by flash step tear)
 tear_is_torn flash step tear = record {
   same_length = length_torn_by flash step tear;
   byte = λ i inside. record {
     outside = λ out. torn_by_outside flash step tear i inside out;
     inside = λ from to.
-        subst (λ (b : ℕ). IsTornByte step (i - start_of step) (slice_index flash i) b) (sym (torn_by_inside flash step tear i inside from to)) (torn_byte_of_torn step tear (i - start_of step) (slice_index flash i));
+        subst (λ (b : ℕ). IsTornByte step (i - start_of step) (slice_index flash i) b)
+        (sym (torn_by_inside flash step tear i inside from to))
+        (torn_byte_of_torn step tear (i - start_of step) (slice_index flash i));
   };
 }
 
 -- a program with the masked data leaves what the tear number names
-pub applied_masked : (flash : List ℕ) (at tear : ℕ) (page : List ℕ) → applied flash (Program at (masked tear 0 page)) ≡ torn_by flash (Program at page) tear
+pub applied_masked : (flash : List ℕ) (at tear : ℕ) (page : List ℕ)
+    → applied flash (Program at (masked tear 0 page)) ≡ torn_by flash (Program at page) tear
 applied_masked flash at tear page =
-    ap (λ (n : ℕ). take at flash ++ anded (take n (drop at flash)) (masked tear 0 page) ++ drop (at + n) flash) (length_masked tear 0 page)
+    ap (λ (n : ℕ). take at flash ++ anded (take n (drop at flash)) (masked tear 0 page)
+    ++ drop (at + n) flash) (length_masked tear 0 page)
 
 -- torn with the masked data is torn
-pub torn_masked : (flash left : List ℕ) (at tear : ℕ) (page : List ℕ) → Torn flash (Program at (masked tear 0 page)) left → Torn flash (Program at page) left
+pub torn_masked : (flash left : List ℕ) (at tear : ℕ) (page : List ℕ)
+    → Torn flash (Program at (masked tear 0 page)) left → Torn flash (Program at page) left
 torn_masked flash left at tear page torn =
     let len = length_masked tear 0 page in
     record {
@@ -110,45 +145,61 @@ torn_masked flash left at tear page torn =
             inside = λ from to.
                 let there : i - at < length page = omega arith in
                 let long : i < at + length (masked tear 0 page) = omega (arith, len) in
-                let d : slice_index (masked tear 0 page) (i - at) ≡ bit_or (slice_index page (i - at)) (mask_at tear (0 + (i - at))) = get_or-masked tear 0 page (i - at) there in
-                torn_program_weaker (slice_index page (i - at)) (mask_at tear (0 + (i - at))) (slice_index flash i) (slice_index left i) (subst (λ (x : ℕ). IsTornProgram x (slice_index flash i) (slice_index left i)) d (b.inside from long));
+                let d : slice_index (masked tear 0 page) (i - at)
+                ≡ bit_or (slice_index page (i - at)) (mask_at tear (0 + (i - at))) =
+                get_or-masked tear 0 page (i - at) there in
+                torn_program_weaker (slice_index page (i - at)) (mask_at tear (0 + (i - at)))
+                (slice_index flash i) (slice_index left i)
+                (subst (λ (x : ℕ). IsTornProgram x (slice_index flash i) (slice_index left i)) d
+                (b.inside from long));
           };
     }
 
 -- a step inside the range of an erase that was cut short leaves it cut short
-pub torn_within : (erase step : Step) → ((k a b : ℕ) → IsTornByte erase k a b) → start_of erase ≤ start_of step → end_of step ≤ end_of erase
-    → (first second third : List ℕ) → Torn first erase second → Torn second step third → Torn first erase third
+pub torn_within : (erase step : Step) → ((k a b : ℕ) → IsTornByte erase k a b)
+    → start_of erase ≤ start_of step → end_of step ≤ end_of erase
+    → (first second third : List ℕ) → Torn first erase second → Torn second step third
+    → Torn first erase third
 torn_within erase step any from_start to_end first second third one two = record {
   same_length = two.same_length ∙ one.same_length;
   byte = λ i inside.
       let within : i < length second = omega (arith, inside, one.same_length) in
       record {
-        outside = λ out. (two.byte i within).outside (further i out) ∙ (one.byte i inside).outside out;
+        outside = λ out. (two.byte i within).outside (further i out)
+            ∙ (one.byte i inside).outside out;
         inside = λ from to. any (i - start_of erase) (slice_index first i) (slice_index third i);
       };
 }
   where
-    further : (i : ℕ) → (i < start_of erase) ⊎ (end_of erase ≤ i) → (i < start_of step) ⊎ (end_of step ≤ i)
+    further : (i : ℕ) → (i < start_of erase) ⊎ (end_of erase ≤ i)
+        → (i < start_of step) ⊎ (end_of step ≤ i)
     further i (inl low) = inl (omega arith)
     further i (inr high) = inr (omega arith)
 
 -- a program of nothing changes nothing
 pub applied_nothing : (flash : List ℕ) (at : ℕ) → applied flash (Program at []) ≡ flash
 applied_nothing flash at =
-    ext_get_or 0 (applied flash (Program at [])) flash (length_applied flash (Program at [])) (λ i inside.
+    ext_get_or 0 (applied flash (Program at [])) flash (length_applied flash (Program at []))
+    (λ i inside.
     let there : i < length flash = omega (arith, inside, length_applied flash (Program at [])) in
-    let out : (i < at) ⊎ (at + 0 ≤ i) = elim (cases_lt i at) [ inl low ↦ inl low | inr high ↦ inr (omega arith) ] in
-    byte_applied flash (Program at []) i there ∙ byte_after_outside (Program at []) i (slice_index flash i) out)
+    let out : (i < at) ⊎ (at + 0 ≤ i) =
+    elim (cases_lt i at) [ inl low ↦ inl low | inr high ↦ inr (omega arith) ] in
+    byte_applied flash (Program at []) i there
+    ∙ byte_after_outside (Program at []) i (slice_index flash i) out)
 
 -- a byte that two programs side by side change, or leave
-byte_after_both : (at : ℕ) (front back : List ℕ) (i byte : ℕ) → byte_after (Program (at + length front) back) i (byte_after (Program at front) i byte) ≡ byte_after (Program at (front ++ back)) i byte
+byte_after_both : (at : ℕ) (front back : List ℕ) (i byte : ℕ)
+    → byte_after (Program (at + length front) back) i (byte_after (Program at front) i byte)
+    ≡ byte_after (Program at (front ++ back)) i byte
 byte_after_both at front back i byte =
     let first = Program at front in
     let second = Program (at + length front) back in
     let both = Program at (front ++ back) in
     let long = length-append front back in
     elim (cases_lt i at) [
-      | inl low ↦ byte_after_outside second i (byte_after first i byte) (inl (omega arith)) ∙ byte_after_outside first i byte (inl low) ∙ sym (byte_after_outside both i byte (inl low))
+      | inl low ↦ byte_after_outside second i (byte_after first i byte) (inl (omega arith))
+          ∙ byte_after_outside first i byte (inl low)
+          ∙ sym (byte_after_outside both i byte (inl low))
       | inr from ↦ elim (cases_lt i (at + length front)) [
         | inl to ↦
             let here : i - at < length front = omega arith in
@@ -164,7 +215,9 @@ byte_after_both at front back i byte =
               let same : i - at - length front ≡ i - (at + length front) = omega arith in
               ap (byte_after second i) (byte_after_outside first i byte (inr mid))
               ∙ byte_after_inside second i byte mid last
-              ∙ ap (λ (x : ℕ). bit_and byte x) (sym (get_or-append_right front back (length front) (i - at) 0 refl past ∙ ap (λ (k : ℕ). get_or back k 0) same))
+              ∙ ap (λ (x : ℕ). bit_and byte x)
+              (sym (get_or-append_right front back (length front) (i - at) 0 refl past
+              ∙ ap (λ (k : ℕ). get_or back k 0) same))
               ∙ sym (byte_after_inside both i byte from end)
           | inr out ↦
               let end : at + length (front ++ back) ≤ i = omega (arith, long) in
@@ -176,12 +229,19 @@ byte_after_both at front back i byte =
     ]
 
 -- two programs side by side are one
-pub applied_more : (flash : List ℕ) (at : ℕ) (front back : List ℕ) → applied (applied flash (Program at front)) (Program (at + length front) back) ≡ applied flash (Program at (front ++ back))
+pub applied_more : (flash : List ℕ) (at : ℕ) (front back : List ℕ)
+    → applied (applied flash (Program at front)) (Program (at + length front) back)
+    ≡ applied flash (Program at (front ++ back))
 applied_more flash at front back =
-    ext_get_or 0 (applied mid second) (applied flash both) (length_applied mid second ∙ length_applied flash first ∙ sym (length_applied flash both)) (λ i inside.
+    ext_get_or 0 (applied mid second) (applied flash both)
+    (length_applied mid second ∙ length_applied flash first ∙ sym (length_applied flash both))
+    (λ i inside.
     let in_mid : i < length mid = omega (arith, inside, length_applied mid second) in
     let in_flash : i < length flash = omega (arith, in_mid, length_applied flash first) in
-    byte_applied mid second i in_mid ∙ ap (byte_after second i) (byte_applied flash first i in_flash) ∙ byte_after_both at front back i (slice_index flash i) ∙ sym (byte_applied flash both i in_flash))
+    byte_applied mid second i in_mid
+    ∙ ap (byte_after second i) (byte_applied flash first i in_flash)
+    ∙ byte_after_both at front back i (slice_index flash i)
+    ∙ sym (byte_applied flash both i in_flash))
   where
     first : Step
     first = Program at front
@@ -203,13 +263,19 @@ and_erased byte small = and_comm 255 byte ∙ and_mask byte 8 ∙ low
     low = omega arith
 
 -- bytes that are programmed over an erased range stand there
-pub applied_erased : (flash : List ℕ) (erase : Step) → ((k b : ℕ) → changed_byte erase k b ≡ 255) → (bytes : List ℕ) → length bytes ≡ len_of erase → end_of erase ≤ length flash → ((k : ℕ) → get_or bytes k 0 < 256)
-    → applied (applied flash erase) (Program (start_of erase) bytes) ≡ take (start_of erase) flash ++ bytes ++ drop (end_of erase) flash
+pub applied_erased : (flash : List ℕ) (erase : Step) → ((k b : ℕ) → changed_byte erase k b ≡ 255)
+    → (bytes : List ℕ) → length bytes ≡ len_of erase → end_of erase ≤ length flash
+    → ((k : ℕ) → get_or bytes k 0 < 256)
+    → applied (applied flash erase) (Program (start_of erase) bytes) ≡ take (start_of erase) flash
+    ++ bytes ++ drop (end_of erase) flash
 applied_erased flash erase all_ones bytes long inside small =
-    ext_get_or 0 (applied mid put) whole (length_applied mid put ∙ length_applied flash erase ∙ sym (length-spliced flash start len bytes same)) (λ i within.
+    ext_get_or 0 (applied mid put) whole
+    (length_applied mid put ∙ length_applied flash erase
+    ∙ sym (length-spliced flash start len bytes same)) (λ i within.
     let in_mid : i < length mid = omega (arith, within, length_applied mid put) in
     let in_flash : i < length flash = omega (arith, in_mid, length_applied flash erase) in
-    byte_applied mid put i in_mid ∙ ap (byte_after put i) (byte_applied flash erase i in_flash) ∙ each i in_flash)
+    byte_applied mid put i in_mid ∙ ap (byte_after put i) (byte_applied flash erase i in_flash)
+    ∙ each i in_flash)
   where
     start : ℕ
     start = start_of erase
@@ -227,9 +293,16 @@ applied_erased flash erase all_ones bytes long inside small =
     whole = take (start_of erase) flash ++ bytes ++ drop (end_of erase) flash
 
     same : length bytes ≡ length (take (len_of erase) (drop (start_of erase) flash))
-    same = omega (arith, long, inside, length-take (len_of erase) (drop (start_of erase) flash), length-drop (start_of erase) flash)
+    same = omega (
+      arith,
+      long,
+      inside,
+      length-take (len_of erase) (drop (start_of erase) flash),
+      length-drop (start_of erase) flash,
+    )
 
-    each : (i : ℕ) → i < length flash → byte_after put i (byte_after erase i (slice_index flash i)) ≡ slice_index whole i
+    each : (i : ℕ) → i < length flash
+        → byte_after put i (byte_after erase i (slice_index flash i)) ≡ slice_index whole i
     each i in_flash = elim (cases_lt i (start_of erase)) [
       | inl low ↦
           byte_after_outside put i (byte_after erase i (slice_index flash i)) (inl low)
@@ -238,7 +311,9 @@ applied_erased flash erase all_ones bytes long inside small =
       | inr from ↦ elim (cases_lt i (end_of erase)) [
         | inl to ↦
             let end : i < start_of erase + length bytes = omega (arith, long) in
-            ap (byte_after put i) (byte_after_inside erase i (slice_index flash i) from to ∙ all_ones (i - start_of erase) (slice_index flash i))
+            ap (byte_after put i)
+            (byte_after_inside erase i (slice_index flash i) from to
+            ∙ all_ones (i - start_of erase) (slice_index flash i))
             ∙ byte_after_inside put i 255 from end
             ∙ and_erased (get_or bytes (i - start_of erase) 0) (small (i - start_of erase))
             ∙ sym (spliced_within flash start len bytes same i from to in_flash)

@@ -30,7 +30,8 @@ abbrev pub IsPart : Option (List ℕ) → ℕ → ℕ → List ℕ → Type 0
 IsPart told at len out = IfSome told (λ flash. out ≡ part_of flash at len)
 
 -- why the answer came: a failure only where the count of faults rose, and off exactly where the power is off
-pub record HasCause {T : Type 0} (before now : ℕ) (off : Bool) (result : Result T NorFault) : Type 0 where
+pub record HasCause {T : Type 0} (before now : ℕ) (off : Bool)
+    (result : Result T NorFault) : Type 0 where
   pub later : before ≤ now
   pub failed : IsErrOf result Failed → Rose before now
   pub else_same : ¬ IsErrOf result Failed → now ≡ before
@@ -38,11 +39,15 @@ pub record HasCause {T : Type 0} (before now : ℕ) (off : Bool) (result : Resul
 
 -- the step was made whole, where the device tells its bytes
 abbrev pub IsMade : Option Step → Option (List ℕ) → Option (List ℕ) → Type 0
-IsMade running old new = IfSome running (λ step. IfSome old (λ flash. new ≡ Some (applied flash step)))
+IsMade running old new =
+    IfSome running (λ step. IfSome old (λ flash. new ≡ Some (applied flash step)))
 
 -- the bytes are still told: a torn flash, and one of those that are allowed
-abbrev pub IsLeftTorn : (List ℕ → Step → List ℕ → Type 0) → Option Step → Option (List ℕ) → Option (List ℕ) → Type 0
-IsLeftTorn allowed running old new = IfSome running (λ step. IfSome old (λ flash. (left : List ℕ) × (new ≡ Some left) × Torn flash step left × allowed flash step left))
+abbrev pub IsLeftTorn : (List ℕ → Step → List ℕ → Type 0) → Option Step → Option (List ℕ)
+    → Option (List ℕ) → Type 0
+IsLeftTorn allowed running old new =
+    IfSome running (λ step. IfSome old
+    (λ flash. (left : List ℕ) × (new ≡ Some left) × Torn flash step left × allowed flash step left))
 
 module _ {D S : Type 0} (size : D → ℕ) (setting : D → S) where
   -- what no call changes
@@ -76,8 +81,11 @@ IsAfter step old new = IfSome old (λ flash. new ≡ Some (applied flash step))
 
 -- where the device tells its bytes, it still tells them, and they are torn by the step
 abbrev pub IsTornBy : Step → Option (List ℕ) → Option (List ℕ) → Type 0
-IsTornBy step old new = IfSome old (λ flash. (left : List ℕ) × (new ≡ Some left) × Torn flash step left)
+IsTornBy step old new =
+    IfSome old (λ flash. (left : List ℕ) × (new ≡ Some left) × Torn flash step left)
 
 -- the setting allows that the next step is refused so, at its start or in a poll
-abbrev pub MayMissStep : {S : Type 0} → (S → ℕ → StepEnd → Type 0) → (S → ℕ → NorFault → Type 0) → S → ℕ → NorFault → Type 0
-MayMissStep may_end may_refuse setting steps why = may_refuse setting steps why ⊎ may_end setting (one_more steps) (end_by why)
+abbrev pub MayMissStep : {S : Type 0} → (S → ℕ → StepEnd → Type 0) → (S → ℕ → NorFault → Type 0) → S
+    → ℕ → NorFault → Type 0
+MayMissStep may_end may_refuse setting steps why = may_refuse setting steps why
+    ⊎ may_end setting (one_more steps) (end_by why)

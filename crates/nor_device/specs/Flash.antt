@@ -39,7 +39,9 @@ part_after (Program at page) part = anded part page
 
 -- the flash after the step: its range is changed, and all else is as before
 abbrev pub applied : List ℕ → Step → List ℕ
-applied flash step = take (start_of step) flash ++ part_after step (take (len_of step) (drop (start_of step) flash)) ++ drop (end_of step) flash
+applied flash step =
+    take (start_of step) flash ++ part_after step (take (len_of step) (drop (start_of step) flash))
+    ++ drop (end_of step) flash
 
 -- the flash after the steps, one after the other
 abbrev pub after_steps : List ℕ → List Step → List ℕ
@@ -57,4 +59,5 @@ changed_byte (Program at page) k byte = bit_and byte (slice_index page k)
 
 -- what the step makes of the byte at an address
 abbrev pub byte_after : Step → ℕ → ℕ → ℕ
-byte_after step i byte = if is_in_range step i then changed_byte step (i - start_of step) byte else byte
+byte_after step i byte =
+    if is_in_range step i then changed_byte step (i - start_of step) byte else byte

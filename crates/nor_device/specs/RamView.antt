@@ -7,7 +7,13 @@ use Rattle.nor_device.specs.Ram.{Ram}
 
 -- the fields, with the bytes as a list
 abbrev pub ram_of : Inside → Ram
-ram_of d = record { bytes = d.bytes.items; polls = d.polls; running = d.running; left = d.left; steps = d.steps }
+ram_of d = record {
+  bytes = d.bytes.items;
+  polls = d.polls;
+  running = d.running;
+  left = d.left;
+  steps = d.steps;
+}
 
 -- the running step lies inside, and each address fits 32 bits
 pub record IsRam (d : Inside) : Type 0 where
@@ -15,5 +21,6 @@ pub record IsRam (d : Inside) : Type 0 where
   pub small : length d.bytes.items < 2 ^ 32
 
 -- as many bytes as the size says
-pub ram_sized : (d : Ram) (flash : List ℕ) → Some d.bytes ≡ Some flash → length flash ≡ length d.bytes
+pub ram_sized : (d : Ram) (flash : List ℕ) → Some d.bytes ≡ Some flash
+    → length flash ≡ length d.bytes
 ram_sized d flash is = cc

@@ -8,7 +8,8 @@ pub returns-in_err-put_page-clause-refused : goal.returns-in_err-put_page-clause
 returns-in_err-put_page-clause-refused g c =
     let p = err_from_is_err_and c.from_residual.result c.from_residual.ensures.1 in
     let room : c.loop-done.done + 256 ≤ length c.args.part.now = omega arith in
-    rw p.1 (page_refused c.args.at c.loop-done.done c.args.part.now _ _ _ room c.loop-done.invariant.put c.in_err-put_page.ensures.torn)
+    rw p.1 (page_refused c.args.at c.loop-done.done c.args.part.now _ _ _ room
+    c.loop-done.invariant.put c.in_err-put_page.ensures.torn)
 
 -- one page more is put back
 pub loop-done-preserved : goal.loop-done-preserved
@@ -19,7 +20,8 @@ loop-done-preserved g c =
       inside = room;
       on = search rules;
       idle = search rules;
-      put = page_put c.args.at c.loop-done.done c.args.part.now _ _ _ room c.loop-done.invariant.put c.in_ok-put_page.ensures.put;
+      put = page_put c.args.at c.loop-done.done c.args.part.now _ _ _ room c.loop-done.invariant.put
+          c.in_ok-put_page.ensures.put;
       setting = search rules;
       faults_same = search rules;
     }

@@ -9,19 +9,32 @@ pub returns-clause-torn : goal.returns-clause-torn
 returns-clause-torn g c =
     let n = g.D.Nor in
     let erase = c.args.erase.now in
-    let inside : (flash : List ℕ) → n.bytes c.args.inner.now ≡ Some flash → end_of erase ≤ length flash =
-    λ flash told. subst (λ (k : ℕ). end_of erase ≤ k) (sym (g.met.D.Nor.sized c.args.inner.now flash told)) c.requires.inside in
-    on_ok_weaker c.put_back.result (erase_torn erase c.requires.erases c.args.at c.args.tear (length c.args.part.now) c.read.new.out c.mask_each.new.bytes _ _ _ _ c.requires.range.0 c.requires.range.1 c.in_ok-read.ensures.bytes c.mask_each.ensures c.put_back.ensures.bytes inside c.read.ensures.same.bytes_same c.in_ok-make_step.ensures.made) c.put_back.ensures.put
+    let inside : (flash : List ℕ) → n.bytes c.args.inner.now ≡ Some flash
+    → end_of erase ≤ length flash =
+    λ flash told. subst (λ (k : ℕ). end_of erase ≤ k)
+    (sym (g.met.D.Nor.sized c.args.inner.now flash told)) c.requires.inside in
+    on_ok_weaker c.put_back.result
+    (erase_torn erase c.requires.erases c.args.at c.args.tear
+    (length c.args.part.now) c.read.new.out c.mask_each.new.bytes _ _ _ _ c.requires.range.0
+    c.requires.range.1 c.in_ok-read.ensures.bytes c.mask_each.ensures c.put_back.ensures.bytes
+    inside c.read.ensures.same.bytes_same c.in_ok-make_step.ensures.made) c.put_back.ensures.put
 
 -- what was put back lies in the erased range
 pub returns-clause-refused : goal.returns-clause-refused
 returns-clause-refused g c =
     let long : length c.mask_each.new.bytes ≡ length c.args.part.now = omega arith in
-    on_err_weaker c.put_back.result (erase_refused c.args.erase.now c.requires.erases c.args.at (length c.mask_each.new.bytes) _ _ _ _ c.requires.range.0 (long ∙ c.requires.range.1) c.read.ensures.same.bytes_same c.in_ok-make_step.ensures.made) c.put_back.ensures.refused
+    on_err_weaker c.put_back.result
+    (erase_refused c.args.erase.now c.requires.erases c.args.at
+    (length c.mask_each.new.bytes) _ _ _ _ c.requires.range.0
+    (long ∙ c.requires.range.1) c.read.ensures.same.bytes_same c.in_ok-make_step.ensures.made)
+    c.put_back.ensures.refused
 
 -- the setting inside allows a refusal
 pub returns-in_err-make_step-clause-allowed : goal.returns-in_err-make_step-clause-allowed
 returns-in_err-make_step-clause-allowed g c =
     let n = g.D.Nor in
-    let p = err_from_is_err_and c.from_residual-in_err-make_step.result c.from_residual-in_err-make_step.ensures.1 in
-    rw p.1 (missed_by n.may_end n.may_refuse (n.setting c.args.inner.now) _ _ c.in_err-make_step.field-0.0 c.read.ensures.setting.setting_same c.in_err-make_step.ensures.allowed)
+    let p = err_from_is_err_and c.from_residual-in_err-make_step.result
+    c.from_residual-in_err-make_step.ensures.1 in
+    rw p.1 (missed_by n.may_end n.may_refuse
+    (n.setting c.args.inner.now) _ _ c.in_err-make_step.field-0.0
+    c.read.ensures.setting.setting_same c.in_err-make_step.ensures.allowed)

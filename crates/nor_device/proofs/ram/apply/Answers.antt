@@ -7,4 +7,5 @@ use Rattle.nor_device.proofs.ram.apply.Goals as goal
 pub returns-in-Erase : goal.returns-in-Erase
 returns-in-Erase c =
     let inside = subst (λ s. end_of s ≤ length c.args.bytes.now) c.in-Erase.is c.requires in
-    c.erase.ensures ∙ erased c.args.bytes.now c.in-Erase.sector inside ∙ sym (ap (applied c.args.bytes.now) c.in-Erase.is)
+    c.erase.ensures ∙ erased c.args.bytes.now c.in-Erase.sector inside
+    ∙ sym (ap (applied c.args.bytes.now) c.in-Erase.is)
