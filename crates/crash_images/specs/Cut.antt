@@ -58,8 +58,7 @@ abbrev pub restarted : {D : Type 0} → CutDevice D → CutDevice D
 restarted device = record device {
   cut = unspent_of device.cut device.steps;
   fail = unspent_of device.fail device.steps;
-  health =
-      Sound;
+  health = Sound;
 }
 
 -- the step that runs: the one that is to be torn, or that of the device inside
@@ -103,14 +102,15 @@ EndsBy cut fail n ends.Failed = fail ≡ Some n
 -- tearing a step leaves the flash that the tear number names, or any torn one where the device may refuse a call
 abbrev pub TearLeaves : {S : Type 0} → (S → ℕ → StepEnd → Type 0) → (S → ℕ → NorFault → Type 0) → S
     → ℕ → List ℕ → Step → List ℕ → Type 0
-TearLeaves may_end may_refuse setting tear flash step left = (left ≡ torn_by flash step tear)
-    ⊎ MayRefuse may_end may_refuse setting
+TearLeaves may_end may_refuse setting tear flash step left =
+    (left ≡ torn_by flash step tear) ⊎ MayRefuse may_end may_refuse setting
 
 module _ {S : Type 0} (may_end : S → ℕ → StepEnd → Type 0)
     (may_refuse : S → ℕ → NorFault → Type 0) where
   -- a step ends by the choice, or badly where the device inside may refuse a call
   abbrev pub CutMayEnd : CutSetting S → ℕ → StepEnd → Type 0
-  CutMayEnd set n end = EndsBy set.cut set.fail n end
+  CutMayEnd set n end =
+      EndsBy set.cut set.fail n end
       ⊎ (MayRefuse may_end may_refuse set.inner × ((why : NorFault) × (end ≡ end_by why)))
 
   -- a refused poll leaves what tearing the step leaves
@@ -119,8 +119,8 @@ module _ {S : Type 0} (may_end : S → ℕ → StepEnd → Type 0)
 
   -- a call is refused as the chosen step was that ended badly, or where the device inside may refuse one
   abbrev pub CutMayRefuse : CutSetting S → ℕ → NorFault → Type 0
-  CutMayRefuse set n why = EndsBy set.cut set.fail n (end_by why)
-      ⊎ MayRefuse may_end may_refuse set.inner
+  CutMayRefuse set n why =
+      EndsBy set.cut set.fail n (end_by why) ⊎ MayRefuse may_end may_refuse set.inner
 
 -- where the device tells its bytes, they are those that the tear number names
 abbrev pub IsTornByNumber : Step → ℕ → Option (List ℕ) → Option (List ℕ) → Type 0
@@ -140,7 +140,8 @@ module _ {D S : Type 0} (running : D → Option Step) (size : D → ℕ) (off : 
     (may_refuse : S → ℕ → NorFault → Type 0) where
   -- calls are refused so, as the chosen step was, or as the device inside refused a call in it
   abbrev pub IsRefusing : CutDevice D → NorFault → Type 0
-  IsRefusing device why = EndsBy device.cut device.fail device.steps (end_by why)
+  IsRefusing device why =
+      EndsBy device.cut device.fail device.steps (end_by why)
       ⊎ MayRefuse may_end may_refuse (setting device.inner)
 
   -- what holds by how the device is: the chosen number is to come, is that of the step that runs, or has come

@@ -22,8 +22,9 @@ window_end tear = tear / 4294967296 % 65536
 
 -- the mask of the i-th byte of the step's range
 abbrev pub mask_at : ℕ → ℕ → ℕ
-mask_at tear i = if nat_le (window_start tear) i && nat_lt i
-    (window_end tear) then window_mask tear else other_mask tear
+mask_at tear i =
+    if nat_le (window_start tear) i && nat_lt i (window_end tear) then window_mask tear
+    else other_mask tear
 
 -- the torn byte: an erase has set the bits of the mask, and a program has not cleared them
 abbrev pub torn_byte_of : ℕ → ℕ → Bool → ℕ → ℕ → ℕ

@@ -45,9 +45,8 @@ IsMade running old new =
 -- the bytes are still told: a torn flash, and one of those that are allowed
 abbrev pub IsLeftTorn : (List ℕ → Step → List ℕ → Type 0) → Option Step → Option (List ℕ)
     → Option (List ℕ) → Type 0
-IsLeftTorn allowed running old new =
-    IfSome running (λ step. IfSome old
-    (λ flash. (left : List ℕ) × (new ≡ Some left) × Torn flash step left × allowed flash step left))
+IsLeftTorn allowed running old new = IfSome running (λ step. IfSome old (λ flash.
+    (left : List ℕ) × (new ≡ Some left) × Torn flash step left × allowed flash step left))
 
 module _ {D S : Type 0} (size : D → ℕ) (setting : D → S) where
   -- what no call changes
@@ -87,5 +86,5 @@ IsTornBy step old new =
 -- the setting allows that the next step is refused so, at its start or in a poll
 abbrev pub MayMissStep : {S : Type 0} → (S → ℕ → StepEnd → Type 0) → (S → ℕ → NorFault → Type 0) → S
     → ℕ → NorFault → Type 0
-MayMissStep may_end may_refuse setting steps why = may_refuse setting steps why
-    ⊎ may_end setting (one_more steps) (end_by why)
+MayMissStep may_end may_refuse setting steps why =
+    may_refuse setting steps why ⊎ may_end setting (one_more steps) (end_by why)

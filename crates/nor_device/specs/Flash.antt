@@ -40,7 +40,8 @@ part_after (Program at page) part = anded part page
 -- the flash after the step: its range is changed, and all else is as before
 abbrev pub applied : List ℕ → Step → List ℕ
 applied flash step =
-    take (start_of step) flash ++ part_after step (take (len_of step) (drop (start_of step) flash))
+    take (start_of step) flash
+    ++ part_after step (take (len_of step) (drop (start_of step) flash))
     ++ drop (end_of step) flash
 
 -- the flash after the steps, one after the other
