@@ -1,0 +1,5 @@
+pub mod Sides
+pub mod MachineSteps
+pub mod Exchanges
+pub mod TurnSteps
+pub mod Seats

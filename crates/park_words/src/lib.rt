@@ -1,0 +1,14 @@
+//! The lock, the turn and the gates of the two cores in four shared words: each step on them is one event of the
+//! parking machine.
+#![tactic(auto)]
+
+mod plays;
+mod rule;
+mod seat;
+mod turns;
+mod view;
+mod words;
+
+pub use seat::{CoreSeat, Seen};
+pub use view::{Stage, View};
+pub use words::{NoWords, Words};
