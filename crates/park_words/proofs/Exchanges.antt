@@ -25,7 +25,7 @@ use Rattle.park_words.specs.declared.view.View.{View}
 use Rattle.park_words.specs.Views.{gate_word, held_gate, moved, me_of}
 use Rattle.park_words.specs.Rule.{RunIs, KnowsGate, Pairing, Paired, Ruled, machine}
 use Rattle.park_words.specs.Told.{Steps, Reads, Played, Tells, TellsExchange, TellsLoad}
-use Rattle.park_words.proofs.Sides.{set_at, set_same, word_same, machine_by, after, Built, Side, side}
+use Rattle.park_words.proofs.Sides.{set_at, set_same, word_same, machine_by, after, Built, Side, side, side_of}
 use Rattle.park_words.proofs.MachineSteps.{start_step, rest_step, park_step, leave_step, take_step, give_step, ask_step, hold_step, see_step, end_step}
 
 -- the gate that a number stands for
@@ -326,15 +326,15 @@ module _
             (rephase Owning false q (own.end-own sum q.safe q.safe' is none gone) (other.end-other sum q.safe q.safe' is none gone) (λ bad. absurd (cc bad)) q.knows',
             end_step d.c d.lock d.gate d.gate' me.0.phase d.w.phase me.0.registers d.w.registers d.run (below_two d.apart) is none gone))
 
-      -- an owner never finds the lock another's
-      pub owner_has_lock : (r : ℕ) → me.0.phase ≡ Owning → r ≢ me.0.core + 1 → Reads records runs stands 0 r me.0 → ⊥
-      owner_has_lock r is other_one found =
-          let d = side records runs stands key found.state found.seat me.0 (inr (inl found.met)) one found.knew in
-          other_one (sym found.word ∙ (d.lock_is ∙ (d.pairing.safe.lock_fits.owner.1 (inl is) ∙ ap (λ x. x + 1) (sym d.pairing.cores.0))))
+    -- an owner never finds the lock another's
+    pub owner_has_lock : (v : View B D) (r : ℕ) → v.phase ≡ Owning → r ≢ v.core + 1 → Reads records runs stands 0 r v → ⊥
+    owner_has_lock v r is other_one found =
+        let d = side_of records runs stands found.state found.seat v found.met found.knew in
+        other_one (sym found.word ∙ (d.lock_is ∙ (d.pairing.safe.lock_fits.owner.1 (inl is) ∙ ap (λ x. x + 1) (sym d.pairing.cores.0))))
 
-      -- a quiet core never finds the other gate another than it knows
-      pub quiet_knows_gate : (i r : ℕ) → me.0.core + i ≡ 3 → me.0.phase ≡ Quiet → r ≢ gate_word (held_gate me.0.held) → Reads records runs stands i r me.0 → ⊥
-      quiet_knows_gate i r at is other_one found =
-          let d = side records runs stands key found.state found.seat me.0 (inr (inl found.met)) one found.knew in
-          let sum = sum_one d.apart in let core = d.pairing.cores.0 in let there : d.o + 2 ≡ i = omega arith in
-          other_one (sym found.word ∙ (ap (λ x. slice_index found.state.words x) (sym there) ∙ (d.gate_is' ∙ ap gate_word (d.pairing.knows is))))
+    -- a quiet core never finds the other gate another than it knows
+    pub quiet_knows_gate : (v : View B D) (i r : ℕ) → v.core + i ≡ 3 → v.phase ≡ Quiet → r ≢ gate_word (held_gate v.held) → Reads records runs stands i r v → ⊥
+    quiet_knows_gate v i r at is other_one found =
+        let d = side_of records runs stands found.state found.seat v found.met found.knew in
+        let sum = sum_one d.apart in let core = d.pairing.cores.0 in let there : d.o + 2 ≡ i = omega arith in
+        other_one (sym found.word ∙ (ap (λ x. slice_index found.state.words x) (sym there) ∙ (d.gate_is' ∙ ap gate_word (d.pairing.knows is))))

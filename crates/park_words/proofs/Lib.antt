@@ -3,3 +3,4 @@ pub mod MachineSteps
 pub mod Exchanges
 pub mod TurnSteps
 pub mod Seats
+pub mod May

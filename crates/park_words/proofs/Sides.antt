@@ -200,6 +200,10 @@ module _
     of_two s (suc zero) v p e = subst (λ x. Side s 1 x) (some-injective p.right v e) (right_side s p)
     of_two s (suc (suc id)) v p e = absurd (some-ne-none v (sym e))
 
+    -- a state with two views, as the core sees it whose seat this is
+    pub side_of : (s : State (Option S) (View B D)) (id : ℕ) (v : View B D) → Paired records runs stands s → get_elem? s.views id ≡ some v → Side s id v
+    side_of s id v p at = of_two s id v p (subst (λ xs. get_elem? xs id ≡ some v) p.views at)
+
     -- no seat of one view or of two ended ones has the stage of one core
     not_of_one : (u : View B D) (id : ℕ) (v : View B D) → u.stage ≡ New → v.stage ≡ One → get_elem? (u ∷ []) id ≡ some v → ⊥
     not_of_one u zero v new one e = let bad : New ≡ One = sym new ∙ (ap (λ x. x.stage) (some-injective u v e) ∙ one) in cc bad
@@ -222,7 +226,7 @@ module _
     -- a state that meets the rule, as the core sees it whose seat this is
     pub side : (key : S) (s : State (Option S) (View B D)) (id : ℕ) (v : View B D) → Ruled records runs stands key s → v.stage ≡ One → get_elem? s.views id ≡ some v → Side s id v
     side key s id v (inl f) one at = absurd (not_of_one fresh id v refl one (at_views s id v _ f.views at))
-    side key s id v (inr (inl p)) one at = of_two s id v p (at_views s id v _ p.views at)
+    side key s id v (inr (inl p)) one at = side_of s id v p at
     side key s id v (inr (inr j)) one at = absurd (ended j.cores)
       where
         ended : ((j.c ≡ 0) × (j.o ≡ 1) × (s.views ≡ j.both ∷ spent ∷ [])) ⊎ ((j.c ≡ 1) × (j.o ≡ 0) × (s.views ≡ spent ∷ j.both ∷ [])) → ⊥

@@ -155,12 +155,12 @@ module _
         Me (Option S) (View B D) → Type 0
     TellsExchange kind phase held st = Tells kind phase held st.first st
 
-    -- the seat may make this exchange: in whatever state, it is the event or changes nothing
-    abbrev pub MayExchange : Kind → Phase → Bool → ℕ → ℕ → ℕ → Seated B D → Type 0
-    MayExchange kind phase held i awaited next seat =
-        (key : S) (slots : ℕ) (me : Me (Option S) (View B D)) →
-        me.0.stage ≡ One → me.0 ≡ seat.view →
-        AllowsStep (Ruled records runs stands key) slots seat.number me i
+    -- a seat that knows this may make the exchange: in whatever state, it is the event or changes nothing
+    abbrev pub MayExchange : Kind → Phase → Bool → ℕ → ℕ → ℕ → View B D → Type 0
+    MayExchange kind phase held i awaited next v =
+        (key : S) (slots seat : ℕ) (me : Me (Option S) (View B D)) →
+        me.0.stage ≡ One → me.0 ≡ v →
+        AllowsStep (Ruled records runs stands key) slots seat me i
             (λ n. either (n == awaited) next n)
             (TellsExchange kind phase held (step slots i awaited next none) me)
 

@@ -2,6 +2,11 @@
 //! parking machine.
 #![tactic(auto)]
 
+mod events;
+mod exchange;
+mod lock;
+mod other_gate;
+mod own_gate;
 mod plays;
 mod rule;
 mod seat;
