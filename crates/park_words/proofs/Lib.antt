@@ -4,3 +4,4 @@ pub mod Exchanges
 pub mod TurnSteps
 pub mod Seats
 pub mod May
+pub mod OneMachine

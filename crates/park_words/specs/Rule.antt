@@ -9,7 +9,7 @@ use Rattle.duo_machine.specs.declared.machine.Gate.{Gate}
 use Rattle.duo_machine.specs.declared.machine.Phase.{Phase}
 use Rattle.duo_machine.specs.declared.machine.Phase.TheVariants.{Quiet}
 use Rattle.duo_machine.specs.declared.machine.Machine.{Machine}
-use Rattle.duo_machine.specs.Safe.{SafeAt}
+use Rattle.duo_machine.specs.Safe.{SafeAt, Safe}
 use Rattle.park_words.specs.declared.view.Stage.TheVariants.{One, Both}
 use Rattle.park_words.specs.declared.view.View.{View}
 use Rattle.park_words.specs.Views.{gate_word, held_gate, fresh, spent}
@@ -149,3 +149,9 @@ module _
     machine s p =
         machine_of p.lock p.gate p.gate' p.left.phase p.right.phase
             p.left.registers p.right.registers p.run
+
+    -- what words and views stand for is one machine, and it is safe
+    abbrev pub StandForOneSafeMachine : Type 0
+    StandForOneSafeMachine =
+        (s : State (Option S) (View B D)) (p q : Paired s) →
+        Safe (machine s p) × (machine s p ≡ machine s q)

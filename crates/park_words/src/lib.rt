@@ -10,10 +10,13 @@ mod own_gate;
 mod plays;
 mod rule;
 mod seat;
+#[cfg(test)]
+mod tests;
 mod turns;
 mod view;
 mod words;
 
+pub use rule::words_stand_for_one_safe_machine;
 pub use seat::{CoreSeat, Seen};
 pub use view::{Stage, View};
 pub use words::{NoWords, Words};

@@ -1,6 +1,6 @@
 //! The rule of the table.
 ghost use Rattle.park_words.specs.Views.{fresh};
-ghost use Rattle.park_words.specs.Rule.{Ruled};
+ghost use Rattle.park_words.specs.Rule.{Ruled, StandForOneSafeMachine};
 
 use crate::view::View;
 use atomic_table::TableRule;
@@ -18,3 +18,8 @@ impl<V: Records> TableRule<Option<V>, View<V::Base, V::Did>, Snapshot<V>> for Ru
 
     ghost first = { λ _. fresh };
 }
+
+/// Whatever state meets the rule with two views in it, words and views stand for one machine, and it is safe.
+pub fn words_stand_for_one_safe_machine<V: Records>()
+    ensures { StandForOneSafeMachine V.records V.runs V.stands }
+{}
