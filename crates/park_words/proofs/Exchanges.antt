@@ -1,5 +1,5 @@
 -- Each event on a word, as the step of the table that makes it.
-use Rattle.std.proofs.Common.{◌≡◌, ◌≢◌, ℕ, zero, suc, ◌+◌, ◌<◌, ◌⊎◌, ◌∙◌, ap, subst, sym, refl, inl, inr, Bool, true, false, List, [], ◌∷◌, slice_set, slice_index, Option, Some, None, eqb, eq-eqb, ne_eqb, arith}
+use Rattle.std.proofs.Common.{◌≡◌, ◌≢◌, ℕ, zero, suc, ◌+◌, ◌<◌, ◌⊎◌, ◌∙◌, ap, subst, sym, refl, inl, inr, Bool, true, false, List, slice_index, Option, Some, None, eqb, eq-eqb, ne_eqb, arith}
 use Rattle.std.specs.Prelude.{IsSome, IsNone}
 use mathlib.Core.Logic.{dite}
 use mathlib.Core.Option.{some, none}
@@ -8,7 +8,7 @@ use native.Mathlib.Decide.{ℕ_discrete}
 use prog.Atomic.{either}
 use lib.ListN.{get_elem?}
 use Rattle.core_state.specs.declared.registers.Record.{Record}
-use Rattle.atomic_table.specs.Table.{State, Me, step, keeps, stepped, Allows}
+use Rattle.atomic_table.specs.Table.{State, Me, step, keeps, Allows}
 use Rattle.duo_machine.specs.declared.machine.Gate.{Gate}
 use Rattle.duo_machine.specs.declared.machine.Gate.TheVariants.{Rest as AtRest, Run, Asked, Parked as AtParked, Freed, Held}
 use Rattle.duo_machine.specs.declared.machine.Phase.{Phase}
@@ -22,7 +22,7 @@ use Rattle.duo_machine.proofs.OwnSide as own
 use Rattle.duo_machine.proofs.OtherSide as other
 use Rattle.park_words.specs.declared.view.Stage.TheVariants.{One}
 use Rattle.park_words.specs.declared.view.View.{View}
-use Rattle.park_words.specs.Views.{gate_word, held_gate, moved, me_of}
+use Rattle.park_words.specs.Views.{gate_word, held_gate, moved}
 use Rattle.park_words.specs.Rule.{RunIs, KnowsGate, Pairing, Paired, Ruled, machine}
 use Rattle.park_words.specs.Told.{Steps, Reads, Played, Tells, TellsExchange, TellsLoad}
 use Rattle.park_words.proofs.Sides.{set_at, set_same, word_same, machine_by, after, Built, Side, side, side_of}
@@ -160,16 +160,20 @@ module _
         let n : ℕ = slice_index s.words i in
         let v' = moved me.0 phase held in
         dite (ℕ_discrete n from)
-          (λ e. let h = happens s d e in (
-            v', keeps, tt,
-            subst (λ x. Ruled records runs stands key (after records runs stands s id i x s.homes v')) (sym (hit n from to e)) (inr (inl h.0)),
-            ((λ _. (refl, plays s id i to from kind me.0 v' d at e h)), λ ne. absurd (ne e)),
-          ))
-          (λ ne. (
-            me.0, keeps, tt,
-            subst (λ x. Ruled records runs stands key (after records runs stands s id i x s.homes me.0)) (sym (miss n from to ne)) (still key s id i me.0 r at),
-            ((λ e. absurd (ne e)), λ _. (refl, reads s id i me.0 d at)),
-          ))
+        (λ e. let h = happens s d e in (
+          v',
+          keeps,
+          tt,
+          subst (λ x. Ruled records runs stands key (after records runs stands s id i x s.homes v')) (sym (hit n from to e)) (inr (inl h.0)),
+          ((λ _. (refl, plays s id i to from kind me.0 v' d at e h)), λ ne. absurd (ne e)),
+        ))
+        (λ ne. (
+          me.0,
+          keeps,
+          tt,
+          subst (λ x. Ruled records runs stands key (after records runs stands s id i x s.homes me.0)) (sym (miss n from to ne)) (still key s id i me.0 r at),
+          ((λ e. absurd (ne e)), λ _. (refl, reads s id i me.0 d at)),
+        ))
 
     -- a load of a word that awaits a number is the event in the same way
     looks : (key : S) (slots id i awaited : ℕ) (me : Me (Option S) (View B D)) (kind : Kind) (phase : Phase) (held : Bool) → me.0.stage ≡ One
@@ -180,12 +184,14 @@ module _
         let n : ℕ = slice_index s.words i in
         let v' = moved me.0 phase held in
         dite (ℕ_discrete n awaited)
-          (λ e. let h = happens s d e in (
-            v', keeps, tt,
-            subst (λ x. Ruled records runs stands key (after records runs stands s id i x s.homes v')) (sym e) (inr (inl h.0)),
-            ((λ _. (refl, plays s id i awaited awaited kind me.0 v' d at e h)), λ ne. absurd (ne e)),
-          ))
-          (λ ne. (me.0, keeps, tt, still key s id i me.0 r at, ((λ e. absurd (ne e)), λ _. (refl, reads s id i me.0 d at))))
+        (λ e. let h = happens s d e in (
+          v',
+          keeps,
+          tt,
+          subst (λ x. Ruled records runs stands key (after records runs stands s id i x s.homes v')) (sym e) (inr (inl h.0)),
+          ((λ _. (refl, plays s id i awaited awaited kind me.0 v' d at e h)), λ ne. absurd (ne e)),
+        ))
+        (λ ne. (me.0, keeps, tt, still key s id i me.0 r at, ((λ e. absurd (ne e)), λ _. (refl, reads s id i me.0 d at))))
 
     -- a load tells the word
     pub loads : (key : S) (slots id i : ℕ) (me : Me (Option S) (View B D)) → me.0.stage ≡ One
@@ -197,8 +203,8 @@ module _
       -- an event on the lock
       at_lock : (from to : ℕ) (kind : Kind) (phase : Phase)
           → ((s : State (Option S) (View B D)) (d : Side records runs stands s id me.0) → d.lock ≡ from
-              → Pairing records runs stands d.c d.o to d.turn d.gate d.gate' d.run s.homes (moved me.0 phase false) d.w
-              × Steps (machine_by d.c d.lock d.gate d.gate' me.0.phase d.w.phase me.0.registers d.w.registers d.run) d.c (Some kind) (machine_by d.c to d.gate d.gate' phase d.w.phase me.0.registers d.w.registers d.run))
+          → Pairing records runs stands d.c d.o to d.turn d.gate d.gate' d.run s.homes (moved me.0 phase false) d.w
+          × Steps (machine_by d.c d.lock d.gate d.gate' me.0.phase d.w.phase me.0.registers d.w.registers d.run) d.c (Some kind) (machine_by d.c to d.gate d.gate' phase d.w.phase me.0.registers d.w.registers d.run))
           → Allows (Ruled records runs stands key) slots id me 0 (λ n. either (eqb n from) to n) (TellsExchange records runs stands kind phase false (step slots 0 from to none) me)
       at_lock from to kind phase happens = exchanges key slots id 0 from to me kind phase false one (λ s d e.
           let h = happens s d (sym d.lock_is ∙ e) in
@@ -207,14 +213,14 @@ module _
       -- an event on the own gate
       at_own : (i : ℕ) (from to : Gate) (kind : Kind) (phase : Phase) → me.0.core + 2 ≡ i
           → ((s : State (Option S) (View B D)) (d : Side records runs stands s id me.0) → d.gate ≡ from
-              → Pairing records runs stands d.c d.o d.lock d.turn to d.gate' d.run s.homes (moved me.0 phase false) d.w
-              × Steps (machine_by d.c d.lock d.gate d.gate' me.0.phase d.w.phase me.0.registers d.w.registers d.run) d.c (Some kind) (machine_by d.c d.lock to d.gate' phase d.w.phase me.0.registers d.w.registers d.run))
+          → Pairing records runs stands d.c d.o d.lock d.turn to d.gate' d.run s.homes (moved me.0 phase false) d.w
+          × Steps (machine_by d.c d.lock d.gate d.gate' me.0.phase d.w.phase me.0.registers d.w.registers d.run) d.c (Some kind) (machine_by d.c d.lock to d.gate' phase d.w.phase me.0.registers d.w.registers d.run))
           → Allows (Ruled records runs stands key) slots id me i (λ n. either (eqb n (gate_word from)) (gate_word to) n) (TellsExchange records runs stands kind phase false (step slots i (gate_word from) (gate_word to) none) me)
       at_own i from to kind phase at happens = exchanges key slots id i (gate_word from) (gate_word to) me kind phase false one (λ s d e.
           let there : d.c + 2 ≡ i = ap (λ x. x + 2) (sym d.pairing.cores.0) ∙ at in
           let h = happens s d (same_gate d.gate from (sym d.gate_is ∙ (ap (λ x. slice_index s.words x) there ∙ e))) in
           subst (λ x. Event s id x (gate_word to) kind me.0 (moved me.0 phase false) d) there
-            (made s id (d.c + 2) (gate_word to) kind me.0 (moved me.0 phase false) _ d (d.with_gate to (moved me.0 phase false) h.0) h.1))
+          (made s id (d.c + 2) (gate_word to) kind me.0 (moved me.0 phase false) _ d (d.with_gate to (moved me.0 phase false) h.0) h.1))
 
       -- the place of the other gate
       beside : (i : ℕ) (s : State (Option S) (View B D)) (d : Side records runs stands s id me.0) → me.0.core + i ≡ 3 → d.o + 2 ≡ i
@@ -232,7 +238,7 @@ module _
           let there = beside i s d at in
           let h = happens s d (same_gate d.gate' from (sym d.gate_is' ∙ (ap (λ x. slice_index s.words x) there ∙ e))) in
           subst (λ x. Event s id x (gate_word to) kind me.0 (moved me.0 phase held) d) there
-            (made s id (d.o + 2) (gate_word to) kind me.0 (moved me.0 phase held) _ d (d.with_gate' to (moved me.0 phase held) h.0) h.1)
+          (made s id (d.o + 2) (gate_word to) kind me.0 (moved me.0 phase held) _ d (d.with_gate' to (moved me.0 phase held) h.0) h.1)
 
       at_other : (i : ℕ) (from to : Gate) (kind : Kind) (phase : Phase) (held : Bool) → me.0.core + i ≡ 3 → AtOther from to kind phase held
           → Allows (Ruled records runs stands key) slots id me i (λ n. either (eqb n (gate_word from)) (gate_word to) n) (TellsExchange records runs stands kind phase held (step slots i (gate_word from) (gate_word to) none) me)
@@ -244,65 +250,73 @@ module _
       takes_lock to at is = at_lock 0 to Take Owning (λ s d free.
           let q = d.pairing in let sum = sum_one d.apart in let to_is : d.c + 1 ≡ to = ap (λ x. x + 1) (sym q.cores.0) ∙ at in
           subst (λ x. Pairing records runs stands d.c d.o x d.turn d.gate d.gate' d.run s.homes (moved me.0 Owning false) d.w
-                × Steps (machine_by d.c d.lock d.gate d.gate' me.0.phase d.w.phase me.0.registers d.w.registers d.run) d.c (Some Take) (machine_by d.c x d.gate d.gate' Owning d.w.phase me.0.registers d.w.registers d.run)) to_is
-            (rephase Owning false q (own.take-own sum q.safe q.safe' is free) (other.take-other sum q.safe q.safe' is free) (λ bad. absurd (cc bad)) q.knows',
-            take_step d.c d.lock d.gate d.gate' me.0.phase d.w.phase me.0.registers d.w.registers d.run (below_two d.apart) is free))
+          × Steps (machine_by d.c d.lock d.gate d.gate' me.0.phase d.w.phase me.0.registers d.w.registers d.run) d.c (Some Take) (machine_by d.c x d.gate d.gate' Owning d.w.phase me.0.registers d.w.registers d.run)) to_is (
+            rephase Owning false q (own.take-own sum q.safe q.safe' is free) (other.take-other sum q.safe q.safe' is free) (λ bad. absurd (cc bad)) q.knows',
+            take_step d.c d.lock d.gate d.gate' me.0.phase d.w.phase me.0.registers d.w.registers d.run (below_two d.apart) is free,
+          ))
 
       -- an owner gives the lock back
       pub gives_lock : (from : ℕ) → me.0.core + 1 ≡ from → me.0.phase ≡ Owning → IsNone me.0.registers.saved
           → Allows (Ruled records runs stands key) slots id me 0 (λ n. either (eqb n from) 0 n) (TellsExchange records runs stands Give Running false (step slots 0 from 0 none) me)
       gives_lock from at is unsaved = at_lock from 0 Give Running (λ s d e.
-          let q = d.pairing in let sum = sum_one d.apart in let mine : d.lock ≡ d.c + 1 = e ∙ (sym at ∙ ap (λ x. x + 1) q.cores.0) in
-          (rephase Running false q (own.give-own sum q.safe q.safe' is unsaved mine) (other.give-other sum q.safe q.safe' is unsaved mine) (λ bad. absurd (cc bad)) q.knows',
-          give_step d.c d.lock d.gate d.gate' me.0.phase d.w.phase me.0.registers d.w.registers d.run (below_two d.apart) is unsaved mine))
+          let q = d.pairing in let sum = sum_one d.apart in let mine : d.lock ≡ d.c + 1 = e ∙ (sym at ∙ ap (λ x. x + 1) q.cores.0) in (
+            rephase Running false q (own.give-own sum q.safe q.safe' is unsaved mine) (other.give-other sum q.safe q.safe' is unsaved mine) (λ bad. absurd (cc bad)) q.knows',
+            give_step d.c d.lock d.gate d.gate' me.0.phase d.w.phase me.0.registers d.w.registers d.run (below_two d.apart) is unsaved mine,
+          ))
 
       -- a resting core starts
       pub starts : (i : ℕ) → me.0.core + 2 ≡ i → me.0.phase ≡ Resting
           → Allows (Ruled records runs stands key) slots id me i (λ n. either (eqb n 0) 1 n) (TellsExchange records runs stands Start Running false (step slots i 0 1 none) me)
       starts i at is = at_own i AtRest Run Start Running at (λ s d e.
-          let q = d.pairing in let sum = sum_one d.apart in
-          (rephase Running false q (own.start-own sum q.safe q.safe' is e) (other.start-other sum q.safe q.safe' is e) (λ bad. absurd (cc bad)) (λ quiet. absurd (not_rest d.gate d.w.held e (q.knows' quiet))),
-          start_step d.c d.lock d.gate d.gate' me.0.phase d.w.phase me.0.registers d.w.registers d.run (below_two d.apart) is e))
+          let q = d.pairing in let sum = sum_one d.apart in (
+            rephase Running false q (own.start-own sum q.safe q.safe' is e) (other.start-other sum q.safe q.safe' is e) (λ bad. absurd (cc bad)) (λ quiet. absurd (not_rest d.gate d.w.held e (q.knows' quiet))),
+            start_step d.c d.lock d.gate d.gate' me.0.phase d.w.phase me.0.registers d.w.registers d.run (below_two d.apart) is e,
+          ))
 
       -- a masked core that runs goes to rest
       pub rests : (i : ℕ) → me.0.core + 2 ≡ i → me.0.phase ≡ Running → IsSome me.0.registers.saved
           → Allows (Ruled records runs stands key) slots id me i (λ n. either (eqb n 1) 0 n) (TellsExchange records runs stands Rest Resting false (step slots i 1 0 none) me)
       rests i at is saved = at_own i Run AtRest Rest Resting at (λ s d e.
-          let q = d.pairing in let sum = sum_one d.apart in
-          (rephase Resting false q (own.rest-own sum q.safe q.safe' is saved e) (other.rest-other sum q.safe q.safe' is saved e) (λ bad. absurd (cc bad)) (λ quiet. absurd (not_run d.gate d.w.held e (q.knows' quiet))),
-          rest_step d.c d.lock d.gate d.gate' me.0.phase d.w.phase me.0.registers d.w.registers d.run (below_two d.apart) is saved e))
+          let q = d.pairing in let sum = sum_one d.apart in (
+            rephase Resting false q (own.rest-own sum q.safe q.safe' is saved e) (other.rest-other sum q.safe q.safe' is saved e) (λ bad. absurd (cc bad)) (λ quiet. absurd (not_run d.gate d.w.held e (q.knows' quiet))),
+            rest_step d.c d.lock d.gate d.gate' me.0.phase d.w.phase me.0.registers d.w.registers d.run (below_two d.apart) is saved e,
+          ))
 
       -- a masked core parks as it was asked
       pub parks : (i : ℕ) → me.0.core + 2 ≡ i → me.0.phase ≡ Running → IsSome me.0.registers.saved
           → Allows (Ruled records runs stands key) slots id me i (λ n. either (eqb n 2) 3 n) (TellsExchange records runs stands Park Parked false (step slots i 2 3 none) me)
       parks i at is saved = at_own i Asked AtParked Park Parked at (λ s d e.
-          let q = d.pairing in let sum = sum_one d.apart in
-          (rephase Parked false q (own.park-own sum q.safe q.safe' is saved e) (other.park-other sum q.safe q.safe' is saved e) (λ bad. absurd (cc bad)) (λ quiet. absurd (not_asked d.gate d.w.held e (q.knows' quiet))),
-          park_step d.c d.lock d.gate d.gate' me.0.phase d.w.phase me.0.registers d.w.registers d.run (below_two d.apart) is saved e))
+          let q = d.pairing in let sum = sum_one d.apart in (
+            rephase Parked false q (own.park-own sum q.safe q.safe' is saved e) (other.park-other sum q.safe q.safe' is saved e) (λ bad. absurd (cc bad)) (λ quiet. absurd (not_asked d.gate d.w.held e (q.knows' quiet))),
+            park_step d.c d.lock d.gate d.gate' me.0.phase d.w.phase me.0.registers d.w.registers d.run (below_two d.apart) is saved e,
+          ))
 
       -- a freed core runs again
       pub leaves : (i : ℕ) → me.0.core + 2 ≡ i → me.0.phase ≡ Parked
           → Allows (Ruled records runs stands key) slots id me i (λ n. either (eqb n 4) 1 n) (TellsExchange records runs stands Leave Running false (step slots i 4 1 none) me)
       leaves i at is = at_own i Freed Run Leave Running at (λ s d e.
-          let q = d.pairing in let sum = sum_one d.apart in
-          (rephase Running false q (own.leave-own sum q.safe q.safe' is e) (other.leave-other sum q.safe q.safe' is e) (λ bad. absurd (cc bad)) (λ quiet. absurd (not_freed d.gate d.w.held e (q.knows' quiet))),
-          leave_step d.c d.lock d.gate d.gate' me.0.phase d.w.phase me.0.registers d.w.registers d.run (below_two d.apart) is e))
+          let q = d.pairing in let sum = sum_one d.apart in (
+            rephase Running false q (own.leave-own sum q.safe q.safe' is e) (other.leave-other sum q.safe q.safe' is e) (λ bad. absurd (cc bad)) (λ quiet. absurd (not_freed d.gate d.w.held e (q.knows' quiet))),
+            leave_step d.c d.lock d.gate d.gate' me.0.phase d.w.phase me.0.registers d.w.registers d.run (below_two d.apart) is e,
+          ))
 
       -- an owner asks the other core to park
       pub asks : (i : ℕ) → me.0.core + i ≡ 3 → me.0.phase ≡ Owning → IsSome me.0.registers.saved
           → Allows (Ruled records runs stands key) slots id me i (λ n. either (eqb n 1) 2 n) (TellsExchange records runs stands Ask Asking false (step slots i 1 2 none) me)
       asks i at is saved = at_other i Run Asked Ask Asking false at (λ s d e.
-          let q = d.pairing in let sum = sum_one d.apart in
-          (rephase Asking false q (own.ask-own sum q.safe q.safe' is saved e) (other.ask-other sum q.safe q.safe' is saved e) (λ bad. absurd (cc bad)) q.knows',
-          ask_step d.c d.lock d.gate d.gate' me.0.phase d.w.phase me.0.registers d.w.registers d.run (below_two d.apart) is saved e))
+          let q = d.pairing in let sum = sum_one d.apart in (
+            rephase Asking false q (own.ask-own sum q.safe q.safe' is saved e) (other.ask-other sum q.safe q.safe' is saved e) (λ bad. absurd (cc bad)) q.knows',
+            ask_step d.c d.lock d.gate d.gate' me.0.phase d.w.phase me.0.registers d.w.registers d.run (below_two d.apart) is saved e,
+          ))
 
       -- an owner holds the other core at rest
       pub holds : (i : ℕ) → me.0.core + i ≡ 3 → me.0.phase ≡ Owning → IsSome me.0.registers.saved
           → Allows (Ruled records runs stands key) slots id me i (λ n. either (eqb n 0) 5 n) (TellsExchange records runs stands Hold Quiet true (step slots i 0 5 none) me)
       holds i at is saved = at_other i AtRest Held Hold Quiet true at (λ s d e.
-          let q = d.pairing in let sum = sum_one d.apart in
-          (rephase Quiet true q (own.hold-own sum q.safe q.safe' is saved e) (other.hold-other sum q.safe q.safe' is saved e) (λ _. refl) q.knows',
-          hold_step d.c d.lock d.gate d.gate' me.0.phase d.w.phase me.0.registers d.w.registers d.run (below_two d.apart) is saved e))
+          let q = d.pairing in let sum = sum_one d.apart in (
+            rephase Quiet true q (own.hold-own sum q.safe q.safe' is saved e) (other.hold-other sum q.safe q.safe' is saved e) (λ _. refl) q.knows',
+            hold_step d.c d.lock d.gate d.gate' me.0.phase d.w.phase me.0.registers d.w.registers d.run (below_two d.apart) is saved e,
+          ))
 
       -- a core that asked sees the other one parked
       pub sees : (i : ℕ) → me.0.core + i ≡ 3 → me.0.phase ≡ Asking
@@ -310,21 +324,23 @@ module _
       sees i at is = looks key slots id i 3 me See Quiet false one (other_happens i AtParked AtParked See Quiet false at (λ s d e.
           let q = d.pairing in let sum = sum_one d.apart in
           subst (λ g. Pairing records runs stands d.c d.o d.lock d.turn d.gate g d.run s.homes (moved me.0 Quiet false) d.w
-                × Steps (machine_by d.c d.lock d.gate d.gate' me.0.phase d.w.phase me.0.registers d.w.registers d.run) d.c (Some See) (machine_by d.c d.lock d.gate g Quiet d.w.phase me.0.registers d.w.registers d.run)) e
-            (rephase Quiet false q (own.see-own sum q.safe q.safe' is e) (other.see-other sum q.safe q.safe' is e) (λ _. e) q.knows',
-            see_step d.c d.lock d.gate d.gate' me.0.phase d.w.phase me.0.registers d.w.registers d.run (below_two d.apart) is e)))
+          × Steps (machine_by d.c d.lock d.gate d.gate' me.0.phase d.w.phase me.0.registers d.w.registers d.run) d.c (Some See) (machine_by d.c d.lock d.gate g Quiet d.w.phase me.0.registers d.w.registers d.run)) e (
+            rephase Quiet false q (own.see-own sum q.safe q.safe' is e) (other.see-other sum q.safe q.safe' is e) (λ _. e) q.knows',
+            see_step d.c d.lock d.gate d.gate' me.0.phase d.w.phase me.0.registers d.w.registers d.run (below_two d.apart) is e,
+          )))
 
       -- a quiet core with no step lets the other one go
       pub ends : (i : ℕ) → me.0.core + i ≡ 3 → me.0.phase ≡ Quiet → me.0.steps ≡ false
           → Allows (Ruled records runs stands key) slots id me i (λ n. either (eqb n (gate_word (held_gate me.0.held))) (gate_word (let_go (held_gate me.0.held))) n)
-              (TellsExchange records runs stands End Owning false (step slots i (gate_word (held_gate me.0.held)) (gate_word (let_go (held_gate me.0.held))) none) me)
+          (TellsExchange records runs stands End Owning false (step slots i (gate_word (held_gate me.0.held)) (gate_word (let_go (held_gate me.0.held))) none) me)
       ends i at is idle = at_other i (held_gate me.0.held) (let_go (held_gate me.0.held)) End Owning false at (λ s d e.
           let q = d.pairing in let sum = sum_one d.apart in
           let none = not_own_step me.0.steps d.w.steps sum q.step idle in let gone = away d.gate' me.0.held e in
           subst (λ g. Pairing records runs stands d.c d.o d.lock d.turn d.gate g d.run s.homes (moved me.0 Owning false) d.w
-                × Steps (machine_by d.c d.lock d.gate d.gate' me.0.phase d.w.phase me.0.registers d.w.registers d.run) d.c (Some End) (machine_by d.c d.lock d.gate g Owning d.w.phase me.0.registers d.w.registers d.run)) (ap let_go e)
-            (rephase Owning false q (own.end-own sum q.safe q.safe' is none gone) (other.end-other sum q.safe q.safe' is none gone) (λ bad. absurd (cc bad)) q.knows',
-            end_step d.c d.lock d.gate d.gate' me.0.phase d.w.phase me.0.registers d.w.registers d.run (below_two d.apart) is none gone))
+          × Steps (machine_by d.c d.lock d.gate d.gate' me.0.phase d.w.phase me.0.registers d.w.registers d.run) d.c (Some End) (machine_by d.c d.lock d.gate g Owning d.w.phase me.0.registers d.w.registers d.run)) (ap let_go e) (
+            rephase Owning false q (own.end-own sum q.safe q.safe' is none gone) (other.end-other sum q.safe q.safe' is none gone) (λ bad. absurd (cc bad)) q.knows',
+            end_step d.c d.lock d.gate d.gate' me.0.phase d.w.phase me.0.registers d.w.registers d.run (below_two d.apart) is none gone,
+          ))
 
     -- an owner never finds the lock another's
     pub owner_has_lock : (v : View B D) (r : ℕ) → v.phase ≡ Owning → r ≢ v.core + 1 → Reads records runs stands 0 r v → ⊥

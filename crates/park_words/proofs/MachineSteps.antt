@@ -1,5 +1,5 @@
 -- Each event as a step of the machine of two cores, the core of the event named first.
-use Rattle.std.proofs.Common.{◌≡◌, ◌≢◌, ℕ, zero, suc, ◌+◌, ◌-◌, ◌<◌, ◌≤◌, ◌⊎◌, ◌∙◌, ap, subst, sym, refl, inl, inr, Bool, true, false, Option, Some, None, eqb, eq-eqb, arith}
+use Rattle.std.proofs.Common.{◌≡◌, ◌≢◌, ℕ, zero, suc, ◌+◌, ◌<◌, ◌≤◌, refl, Option, Some, None, arith}
 use Rattle.std.specs.Prelude.{IsSome, IsNone}
 use Rattle.std.specs.Int.{IsBitSet}
 use Rattle.core_state.specs.declared.registers.Regs.{Regs}
@@ -9,7 +9,6 @@ use Rattle.duo_machine.specs.declared.machine.Gate.{Gate}
 use Rattle.duo_machine.specs.declared.machine.Gate.TheVariants.{Rest as AtRest, Run, Asked, Parked as AtParked, Freed, Held}
 use Rattle.duo_machine.specs.declared.machine.Phase.{Phase}
 use Rattle.duo_machine.specs.declared.machine.Phase.TheVariants.{Resting, Running, Owning, Asking, Quiet, Parked}
-use Rattle.duo_machine.specs.declared.events.Kind.{Kind}
 use Rattle.duo_machine.specs.declared.events.Kind.TheVariants.{Start, Rest, Take, Give, Save, Back, Hold, Ask, Park, See, Begin, Done, End, Leave, Set, Fetch}
 use Rattle.duo_machine.specs.Machine.{KeepsAway, let_go}
 use Rattle.duo_machine.specs.Table.{IsAwake, bit_of}

@@ -1,12 +1,12 @@
 -- What each call may exchange, by what its seat knows.
-use Rattle.std.proofs.Common.{◌≡◌, ◌≢◌, ℕ, ◌+◌, ◌∙◌, ap, subst, sym, refl, Bool, true, false, List, Option, Some, None, eqb}
+use Rattle.std.proofs.Common.{◌≡◌, ℕ, ◌+◌, ◌∙◌, ap, subst, sym, true, false, List, Option, eqb}
 use mathlib.Core.Option.{none}
 use prog.Atomic.{either}
 use Rattle.std.specs.Prelude.{IsSome, IsNone}
 use Rattle.core_state.specs.declared.registers.Record.{Record}
-use Rattle.atomic_table.specs.Table.{Me, step, Allows}
+use Rattle.atomic_table.specs.Table.{step, Allows}
 use Rattle.duo_machine.specs.declared.machine.Phase.TheVariants.{Resting, Running, Owning, Asking, Quiet, Parked}
-use Rattle.duo_machine.specs.declared.events.Kind.TheVariants.{Start, Rest, Take, Give, Hold, Ask, Park, See, End, Leave}
+use Rattle.duo_machine.specs.declared.events.Kind.TheVariants.{Start, Rest, Take, Give, Hold, Ask, Park, End, Leave}
 use Rattle.duo_machine.specs.Machine.{let_go}
 use Rattle.park_words.specs.declared.view.View.{View}
 use Rattle.park_words.specs.Views.{gate_word, held_gate}
@@ -47,5 +47,5 @@ module _
         → gate_word (held_gate v.held) ≡ from → gate_word (let_go (held_gate v.held)) ≡ to → MayExchange records runs stands End Owning false i from to v
     may_end i from to at is idle is_from is_to = subst (λ (z : ℕ × ℕ). MayExchange records runs stands End Owning false i z.0 z.1 v) (λ k. (is_from k, is_to k))
         (λ key slots id me one e. subst (λ u. Allows (Ruled records runs stands key) slots id me i (λ n. either (eqb n (gate_word (held_gate u.held))) (gate_word (let_go (held_gate u.held))) n)
-                (TellsExchange records runs stands End Owning false (step slots i (gate_word (held_gate u.held)) (gate_word (let_go (held_gate u.held))) none) me)) e
-            (ends records runs stands key slots id me one i (ap (λ u. u.core + i) e ∙ at) (ap (λ u. u.phase) e ∙ is) (ap (λ u. u.steps) e ∙ idle)))
+        (TellsExchange records runs stands End Owning false (step slots i (gate_word (held_gate u.held)) (gate_word (let_go (held_gate u.held))) none) me)) e
+        (ends records runs stands key slots id me one i (ap (λ u. u.core + i) e ∙ at) (ap (λ u. u.phase) e ∙ is) (ap (λ u. u.steps) e ∙ idle)))

@@ -1,12 +1,9 @@
 -- Words and views stand for one machine, and it is safe.
-use Rattle.std.proofs.Common.{◌≡◌, ℕ, ◌∙◌, ap, subst, sym, refl, Bool, true, false, List, [], ◌∷◌, slice_index, Option, Some, None}
-use mathlib.Core.Option.{some, some-injective}
+use Rattle.std.proofs.Common.{◌≡◌, ℕ, ◌∙◌, ap, subst, sym, refl, Bool, true, false, List, [], ◌∷◌, slice_index, Option}
+use mathlib.Core.Option.{some-injective}
 use lib.ListN.{get_elem?}
 use Rattle.core_state.specs.declared.registers.Record.{Record}
-use Rattle.duo_machine.specs.Safe.{Safe}
-use Rattle.park_words.specs.declared.view.View.{View}
-use Rattle.park_words.specs.Views.{gate_word}
-use Rattle.park_words.specs.Rule.{RunIs, Paired, machine, machine_of, StandForOneSafeMachine}
+use Rattle.park_words.specs.Rule.{RunIs, machine_of, StandForOneSafeMachine}
 use Rattle.park_words.proofs.Exchanges.{same_gate}
 
 -- the running step is told by the views

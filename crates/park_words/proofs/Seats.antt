@@ -1,5 +1,5 @@
 -- The two seats dealt at the start, and joined at the end.
-use Rattle.std.proofs.Common.{◌≡◌, ◌≢◌, ℕ, zero, suc, ◌+◌, ◌<◌, ◌≤◌, ◌⊎◌, ◌∙◌, ap, subst, sym, refl, inl, inr, Bool, true, false, List, [], ◌∷◌, ◌++◌, length, slice_set, slice_index, Option, Some, None, arith}
+use Rattle.std.proofs.Common.{◌≡◌, ◌≢◌, ℕ, zero, suc, ◌+◌, ◌⊎◌, ◌∙◌, ap, subst, sym, refl, inl, inr, Bool, true, false, List, [], ◌∷◌, ◌++◌, slice_set, Option, Some, None, arith}
 use mathlib.Core.Option.{some, none, some-injective, some-ne-none}
 use mathlib.Core.Option as maybe
 use lib.ListN.{get_elem?}
@@ -12,14 +12,12 @@ use Rattle.duo_machine.specs.declared.machine.Phase.{Phase}
 use Rattle.duo_machine.specs.declared.machine.Phase.TheVariants.{Resting}
 use Rattle.duo_machine.specs.Machine.{other}
 use Rattle.duo_machine.specs.Safe.{SafeAt}
-use Rattle.park_words.specs.declared.view.Stage.{Stage}
 use Rattle.park_words.specs.declared.view.Stage.TheVariants.{New, One, Both, Spent}
 use Rattle.park_words.specs.declared.view.View.{View}
 use Rattle.park_words.specs.Views.{fresh, dealt, both_of, spent, gate_word}
-use Rattle.park_words.specs.Rule.{RunIs, TurnIs, StandsBy, AtHome, Pairing, Paired, Fresh, Joined, Ruled}
+use Rattle.park_words.specs.Rule.{TurnIs, StandsBy, AtHome, Pairing, Paired, Fresh, Ruled}
 use Rattle.park_words.specs.Told.{IsFirst, IsLast}
 use Rattle.park_words.proofs.Sides.{back}
-use Rattle.park_words.proofs.Exchanges.{sum_one}
 
 -- a core at rest as at the start, beside another one
 at_rest : (c o : ℕ) → c + o ≡ 1 → SafeAt c 0 AtRest Resting Resting starting None
@@ -139,14 +137,18 @@ module _
         → Pairing records runs stands c o lock turn gate gate' run s.homes v w
         → v.phase ≡ Resting → w.phase ≡ Resting → v.turn ≡ false → w.turn ≡ false
         → (lock ≡ 0) × (turn ≡ 0) × (gate ≡ AtRest) × (gate' ≡ AtRest)
-          × AtHome records runs stands s.homes c o v.base v.registers w.registers v.share w.share None
+        × AtHome records runs stands s.homes c o v.base v.registers w.registers v.share w.share None
     joined s c o lock turn gate gate' run v w apart p rests rests' free free' =
         let mine : SafeAt c lock gate Resting Resting v.registers run = subst (λ (z : Phase × Phase). SafeAt c lock gate z.0 z.1 v.registers run) (λ k. (rests k, rests' k)) p.safe in
         let theirs : SafeAt o lock gate' Resting Resting w.registers run = subst (λ (z : Phase × Phase). SafeAt o lock gate' z.0 z.1 w.registers run) (λ k. (rests' k, rests k)) p.safe' in
         let apart' : o + c ≡ 1 = omega arith in
-        let z = turn_free apart p.turns free free' in
-        (lock_free apart mine theirs, z, gate_rests apart mine theirs, gate_rests apart' theirs mine,
-        subst (λ r. AtHome records runs stands s.homes c o v.base v.registers w.registers v.share w.share r) (nothing_runs apart mine theirs) (p.home z))
+        let z = turn_free apart p.turns free free' in (
+          lock_free apart mine theirs,
+          z,
+          gate_rests apart mine theirs,
+          gate_rests apart' theirs mine,
+          subst (λ r. AtHome records runs stands s.homes c o v.base v.registers w.registers v.share w.share r) (nothing_runs apart mine theirs) (p.home z),
+        )
 
     -- the seat of core 0 takes in that of core 1
     join_left : (s : St) (p : Paired records runs stands s) → p.left.phase ≡ Resting → p.right.phase ≡ Resting → p.left.turn ≡ false → p.right.turn ≡ false
@@ -198,11 +200,11 @@ module _
         of_pair s p zero (suc zero) a apart b =
             let e = some-injective p.left v a in let f = some-injective p.right w b in
             subst (λ (z : View B D × View B D). Ruled records runs stands key (record { words = s.words; homes = s.homes; views = both_of z.0 z.1 ∷ spent ∷ [] })) (λ k. (e k, f k))
-              (join_left s p (ap (λ x. x.phase) e ∙ rests) (ap (λ x. x.phase) f ∙ rests') (ap (λ x. x.turn) e ∙ free) (ap (λ x. x.turn) f ∙ free'))
+            (join_left s p (ap (λ x. x.phase) e ∙ rests) (ap (λ x. x.phase) f ∙ rests') (ap (λ x. x.turn) e ∙ free) (ap (λ x. x.turn) f ∙ free'))
         of_pair s p (suc zero) zero a apart b =
             let e = some-injective p.right v a in let f = some-injective p.left w b in
             subst (λ (z : View B D × View B D). Ruled records runs stands key (record { words = s.words; homes = s.homes; views = spent ∷ both_of z.0 z.1 ∷ [] })) (λ k. (e k, f k))
-              (join_right s p (ap (λ x. x.phase) f ∙ rests') (ap (λ x. x.phase) e ∙ rests) (ap (λ x. x.turn) f ∙ free') (ap (λ x. x.turn) e ∙ free))
+            (join_right s p (ap (λ x. x.phase) f ∙ rests') (ap (λ x. x.phase) e ∙ rests) (ap (λ x. x.turn) f ∙ free') (ap (λ x. x.turn) e ∙ free))
         of_pair s p (suc zero) (suc zero) a apart b = absurd (apart refl)
         of_pair s p zero (suc (suc n)) a apart b = absurd (some-ne-none w (sym b))
         of_pair s p (suc zero) (suc (suc n)) a apart b = absurd (some-ne-none w (sym b))

@@ -1,5 +1,5 @@
 -- A state that meets the rule, as the core sees it whose seat makes a step; and the state after the step.
-use Rattle.std.proofs.Common.{◌≡◌, ℕ, zero, suc, ◌+◌, ◌<◌, ◌⊎◌, ◌∙◌, ap, subst, sym, refl, inl, inr, List, [], ◌∷◌, slice_set, slice_index, Option, Some, None, arith}
+use Rattle.std.proofs.Common.{◌≡◌, ℕ, zero, suc, ◌+◌, ◌⊎◌, ◌∙◌, ap, subst, sym, refl, inl, inr, List, [], ◌∷◌, slice_set, slice_index, Option}
 use mathlib.Core.Option.{some, some-injective, some-ne-none}
 use mathlib.Core.Option as maybe
 use lib.ListN.{get_elem?}
@@ -12,7 +12,7 @@ use Rattle.park_words.specs.declared.view.Stage.{Stage}
 use Rattle.park_words.specs.declared.view.Stage.TheVariants.{New, One, Both, Spent}
 use Rattle.park_words.specs.declared.view.View.{View}
 use Rattle.park_words.specs.Views.{gate_word, fresh, spent}
-use Rattle.park_words.specs.Rule.{RunIs, TurnIs, StandsFor, AtHome, Pairing, Paired, Fresh, Joined, Ruled, machine, machine_of}
+use Rattle.park_words.specs.Rule.{RunIs, TurnIs, StandsFor, Pairing, Paired, Ruled, machine, machine_of}
 
 -- the machine of two cores, the first named being this one
 abbrev pub machine_by : ℕ → ℕ → Gate → Gate → Phase → Phase → Record → Record → Option ℕ → Machine
@@ -155,14 +155,66 @@ module _
       turn_is = ap (λ ws. slice_index ws 1) p.words;
       gate_is = ap (λ ws. slice_index ws 2) p.words;
       gate_is' = ap (λ ws. slice_index ws 3) p.words;
-      with_lock = λ n v' q. (record { lock = n; turn = p.turn; gate = p.gate; gate' = p.gate'; run = p.run; left = v'; right = p.right;
-          words = ap (λ ws. slice_set ws 0 n) p.words; views = ap (λ vs. slice_set vs 0 v') p.views; pairing = q }, refl);
-      with_turn = λ n run' homes v' q. (record { lock = p.lock; turn = n; gate = p.gate; gate' = p.gate'; run = run'; left = v'; right = p.right;
-          words = ap (λ ws. slice_set ws 1 n) p.words; views = ap (λ vs. slice_set vs 0 v') p.views; pairing = q }, refl);
-      with_gate = λ g v' q. (record { lock = p.lock; turn = p.turn; gate = g; gate' = p.gate'; run = p.run; left = v'; right = p.right;
-          words = ap (λ ws. slice_set ws 2 (gate_word g)) p.words; views = ap (λ vs. slice_set vs 0 v') p.views; pairing = q }, refl);
-      with_gate' = λ g v' q. (record { lock = p.lock; turn = p.turn; gate = p.gate; gate' = g; run = p.run; left = v'; right = p.right;
-          words = ap (λ ws. slice_set ws 3 (gate_word g)) p.words; views = ap (λ vs. slice_set vs 0 v') p.views; pairing = q }, refl);
+      with_lock = λ n v' q. (
+        record {
+          lock = n;
+          turn = p.turn;
+          gate = p.gate;
+          gate' = p.gate';
+          run = p.run;
+          left = v';
+          right = p.right;
+          words = ap (λ ws. slice_set ws 0 n) p.words;
+          views = ap (λ vs. slice_set vs 0 v') p.views;
+          pairing = q;
+        },
+        refl,
+      );
+      with_turn = λ n run' homes v' q. (
+        record {
+          lock = p.lock;
+          turn = n;
+          gate = p.gate;
+          gate' = p.gate';
+          run = run';
+          left = v';
+          right = p.right;
+          words = ap (λ ws. slice_set ws 1 n) p.words;
+          views = ap (λ vs. slice_set vs 0 v') p.views;
+          pairing = q;
+        },
+        refl,
+      );
+      with_gate = λ g v' q. (
+        record {
+          lock = p.lock;
+          turn = p.turn;
+          gate = g;
+          gate' = p.gate';
+          run = p.run;
+          left = v';
+          right = p.right;
+          words = ap (λ ws. slice_set ws 2 (gate_word g)) p.words;
+          views = ap (λ vs. slice_set vs 0 v') p.views;
+          pairing = q;
+        },
+        refl,
+      );
+      with_gate' = λ g v' q. (
+        record {
+          lock = p.lock;
+          turn = p.turn;
+          gate = p.gate;
+          gate' = g;
+          run = p.run;
+          left = v';
+          right = p.right;
+          words = ap (λ ws. slice_set ws 3 (gate_word g)) p.words;
+          views = ap (λ vs. slice_set vs 0 v') p.views;
+          pairing = q;
+        },
+        refl,
+      );
     }
 
     -- the state as the seat of core 1 sees it
@@ -184,14 +236,66 @@ module _
       turn_is = ap (λ ws. slice_index ws 1) p.words;
       gate_is = ap (λ ws. slice_index ws 3) p.words;
       gate_is' = ap (λ ws. slice_index ws 2) p.words;
-      with_lock = λ n v' q. (record { lock = n; turn = p.turn; gate = p.gate; gate' = p.gate'; run = p.run; left = p.left; right = v';
-          words = ap (λ ws. slice_set ws 0 n) p.words; views = ap (λ vs. slice_set vs 1 v') p.views; pairing = fore q }, refl);
-      with_turn = λ n run' homes v' q. (record { lock = p.lock; turn = n; gate = p.gate; gate' = p.gate'; run = run'; left = p.left; right = v';
-          words = ap (λ ws. slice_set ws 1 n) p.words; views = ap (λ vs. slice_set vs 1 v') p.views; pairing = fore q }, refl);
-      with_gate = λ g v' q. (record { lock = p.lock; turn = p.turn; gate = p.gate; gate' = g; run = p.run; left = p.left; right = v';
-          words = ap (λ ws. slice_set ws 3 (gate_word g)) p.words; views = ap (λ vs. slice_set vs 1 v') p.views; pairing = fore q }, refl);
-      with_gate' = λ g v' q. (record { lock = p.lock; turn = p.turn; gate = g; gate' = p.gate'; run = p.run; left = p.left; right = v';
-          words = ap (λ ws. slice_set ws 2 (gate_word g)) p.words; views = ap (λ vs. slice_set vs 1 v') p.views; pairing = fore q }, refl);
+      with_lock = λ n v' q. (
+        record {
+          lock = n;
+          turn = p.turn;
+          gate = p.gate;
+          gate' = p.gate';
+          run = p.run;
+          left = p.left;
+          right = v';
+          words = ap (λ ws. slice_set ws 0 n) p.words;
+          views = ap (λ vs. slice_set vs 1 v') p.views;
+          pairing = fore q;
+        },
+        refl,
+      );
+      with_turn = λ n run' homes v' q. (
+        record {
+          lock = p.lock;
+          turn = n;
+          gate = p.gate;
+          gate' = p.gate';
+          run = run';
+          left = p.left;
+          right = v';
+          words = ap (λ ws. slice_set ws 1 n) p.words;
+          views = ap (λ vs. slice_set vs 1 v') p.views;
+          pairing = fore q;
+        },
+        refl,
+      );
+      with_gate = λ g v' q. (
+        record {
+          lock = p.lock;
+          turn = p.turn;
+          gate = p.gate;
+          gate' = g;
+          run = p.run;
+          left = p.left;
+          right = v';
+          words = ap (λ ws. slice_set ws 3 (gate_word g)) p.words;
+          views = ap (λ vs. slice_set vs 1 v') p.views;
+          pairing = fore q;
+        },
+        refl,
+      );
+      with_gate' = λ g v' q. (
+        record {
+          lock = p.lock;
+          turn = p.turn;
+          gate = g;
+          gate' = p.gate';
+          run = p.run;
+          left = p.left;
+          right = v';
+          words = ap (λ ws. slice_set ws 2 (gate_word g)) p.words;
+          views = ap (λ vs. slice_set vs 1 v') p.views;
+          pairing = fore q;
+        },
+        refl,
+      );
     }
 
     -- the one of two views at a seat

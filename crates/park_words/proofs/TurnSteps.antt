@@ -1,7 +1,6 @@
 -- Taking the turn and giving it back.
-use Rattle.std.proofs.Common.{◌≡◌, ◌≢◌, ℕ, zero, suc, ◌+◌, ◌-◌, ◌<◌, ◌≤◌, ◌⊎◌, ◌∙◌, ap, subst, sym, refl, inl, inr, Bool, true, false, List, [], ◌∷◌, ◌++◌, length, slice_set, slice_index, Option, Some, None, eqb, eq-eqb, ne_eqb, eqb-true, arith}
+use Rattle.std.proofs.Common.{◌≡◌, ◌≢◌, ℕ, zero, suc, ◌+◌, ◌<◌, ◌⊎◌, ◌∙◌, ap, subst, sym, refl, inl, inr, Bool, true, false, List, [], ◌∷◌, length, slice_set, slice_index, Option, Some, None, eqb, eqb-true, arith}
 use Rattle.std.proofs.lemmas.Bool.{eqb-false}
-use Rattle.std.specs.Prelude.{IsSome, IsNone}
 use mathlib.Core.Logic.{dite}
 use mathlib.Core.Option.{some, none}
 use mathlib.Core.Option as maybe
@@ -10,11 +9,10 @@ use prog.Atomic.{either}
 use lib.ListN.{get_elem?}
 use Rattle.core_state.specs.declared.registers.Record.{Record}
 use Rattle.core_state.specs.Registers.{saved_and_masked, restored}
-use Rattle.core_state.specs.Sharing.{in_order}
 use Rattle.atomic_table.specs.Table.{State, Me, step, keeps, takes, gives, put_back, rest, Allows}
 use Rattle.duo_machine.specs.declared.machine.Gate.{Gate}
 use Rattle.duo_machine.specs.declared.machine.Phase.{Phase}
-use Rattle.duo_machine.specs.declared.machine.Phase.TheVariants.{Running, Owning, Asking, Quiet}
+use Rattle.duo_machine.specs.declared.machine.Phase.TheVariants.{Quiet}
 use Rattle.duo_machine.specs.declared.machine.Machine.{Machine}
 use Rattle.duo_machine.specs.declared.events.Kind.{Kind}
 use Rattle.duo_machine.specs.declared.events.Kind.TheVariants.{Start, Rest, Take, Give, Save, Back, Hold, Ask, Park, See, Begin, Done, End, Leave, Set, Fetch}
@@ -25,9 +23,9 @@ use Rattle.duo_machine.proofs.OtherSide as beside
 use Rattle.park_words.specs.declared.view.Stage.TheVariants.{One}
 use Rattle.park_words.specs.declared.view.View.{View}
 use Rattle.park_words.specs.Views.{is_step_of, with_turn, without_turn}
-use Rattle.park_words.specs.Rule.{RunIs, TurnIs, StandsFor, StandsBy, AtHome, Pairing, Paired, Ruled, machine}
-use Rattle.park_words.specs.Told.{Steps, Does, IsOutOfQuiet, Reads, Played, Known, Gives, TellsTaken, TellsGiven}
-use Rattle.park_words.proofs.Sides.{set_at, machine_by, after, Built, Side, side}
+use Rattle.park_words.specs.Rule.{RunIs, StandsBy, AtHome, Pairing, Ruled}
+use Rattle.park_words.specs.Told.{Steps, Does, IsBeforeQuiet, Known, Gives, TellsTaken, TellsGiven}
+use Rattle.park_words.proofs.Sides.{set_at, machine_by, after, Side, side}
 use Rattle.park_words.proofs.MachineSteps.{save_step, back_step, set_step, fetch_step, begin_step, done_step, no_step}
 use Rattle.park_words.proofs.Exchanges.{hit, miss, sum_one, below_two, still, reads}
 
@@ -42,7 +40,7 @@ module _ {c o lock : ℕ} {gate gate' : Gate} {phase phase' : Phase} {registers 
     (theirs : SafeAt o lock gate' phase' phase registers' run)
   where
     -- while a core runs, owns the lock or asks, nothing runs, but for a step of its own
-    out_of_quiet : IsOutOfQuiet phase → run ≡ None
+    out_of_quiet : IsBeforeQuiet phase → run ≡ None
     out_of_quiet is = grind arith
 
     -- while a core is quiet, nothing of the other one runs
@@ -233,31 +231,45 @@ module _
         let q = d.pairing in
         let v' = with_turn me.0 d.w.registers d.w.share d.run in
         dite (ℕ_discrete n 0)
-          (λ e.
-            let free = sym d.turn_is ∙ e in
-            let h = q.home free in
-            let homes = slice_set s.homes 0 none in
-            let b = d.with_turn (d.c + 1) d.run homes v' (turn_taken s d homes free) in
-            let to_is : d.c + 1 ≡ to = ap (λ x. x + 1) (sym q.cores.0) ∙ at_to in (
-            v', takes 0 (Some h.value), ap (λ hs. get_elem? hs 0) h.home,
-            subst (λ x. Ruled records runs stands key (after records runs stands s id 1 x homes v')) (to_is ∙ sym (hit n 0 to e)) (inr (inl b.0)),
-            ((λ _. (h.value, not_taken s d free, refl, refl, knows_it s d h, record {
-              before = s;
-              then = after records runs stands s id 1 (d.c + 1) homes v';
-              met = d.paired;
-              meets = b.0;
-              seat = id;
-              knew = at;
-              knows = set_at s.views id me.0 v' at;
-              word = e;
-              step = b.1 ∙ sym d.machine_is;
-            })), λ ne. absurd (ne e)),
-          ))
-          (λ ne. (
-            me.0, keeps, tt,
-            subst (λ x. Ruled records runs stands key (after records runs stands s id 1 x s.homes me.0)) (sym (miss n 0 to ne)) (still records runs stands key s id 1 me.0 r at),
-            ((λ e. absurd (ne e)), λ _. (refl, reads records runs stands s id 1 me.0 d at)),
-          ))
+        (λ e.
+        let free = sym d.turn_is ∙ e in
+        let h = q.home free in
+        let homes = slice_set s.homes 0 none in
+        let b = d.with_turn (d.c + 1) d.run homes v' (turn_taken s d homes free) in
+        let to_is : d.c + 1 ≡ to = ap (λ x. x + 1) (sym q.cores.0) ∙ at_to in (
+          v',
+          takes 0 (Some h.value),
+          ap (λ hs. get_elem? hs 0) h.home,
+          subst (λ x. Ruled records runs stands key (after records runs stands s id 1 x homes v')) (to_is ∙ sym (hit n 0 to e)) (inr (inl b.0)),
+          (
+            (λ _. (
+              h.value,
+              not_taken s d free,
+              refl,
+              refl,
+              knows_it s d h,
+              record {
+                before = s;
+                then = after records runs stands s id 1 (d.c + 1) homes v';
+                met = d.paired;
+                meets = b.0;
+                seat = id;
+                knew = at;
+                knows = set_at s.views id me.0 v' at;
+                word = e;
+                step = b.1 ∙ sym d.machine_is;
+              },
+            )),
+            λ ne. absurd (ne e),
+          ),
+        ))
+        (λ ne. (
+          me.0,
+          keeps,
+          tt,
+          subst (λ x. Ruled records runs stands key (after records runs stands s id 1 x s.homes me.0)) (sym (miss n 0 to ne)) (still records runs stands key s id 1 me.0 r at),
+          ((λ e. absurd (ne e)), λ _. (refl, reads records runs stands s id 1 me.0 d at)),
+        ))
       where
         not_taken : (s : State (Option S) (View B D)) (d : Side records runs stands s id me.0) → d.turn ≡ 0 → me.0.turn ≡ false
         not_taken s d free = go me.0.turn (λ e. let at = d.pairing.turns.own.1 e in omega arith)
@@ -309,21 +321,27 @@ module _
         let homes : List (maybe.Option (Option S)) = slice_set s.homes 0 (some (Some x)) in
         let h = done me.0 d.c d.o d.lock d.gate d.gate' d.w.phase d.w.registers d.run d.w.steps (below_two d.apart) (sum_one d.apart) q.safe q.safe' q.step q.cores.0 took.2 g.kind (records x me.0.core) (runs x) g.does in
         let b = d.with_turn 0 (runs x) homes v' (turn_given s d homes x share (only s.homes (some (Some x)) (sized ∙ single)) has g h) in (
-          v', gives, tt,
+          v',
+          gives,
+          tt,
           subst (λ hs. Ruled records runs stands key (after records runs stands s id 1 0 hs v')) (ap (put_back s.homes) (sym hand)) (inr (inl b.0)),
           λ y hand_is. (
             told y (same x y (sym hand ∙ hand_is)),
-            (g.kind, record {
-              before = s;
-              then = after records runs stands s id 1 0 homes v';
-              met = d.paired;
-              meets = b.0;
-              seat = id;
-              knew = at;
-              knows = set_at s.views id me.0 v' at;
-              word = d.turn_is ∙ (q.turns.own.1 has ∙ ap (λ n. n + 1) (sym q.cores.0));
-              step = subst (λ (z : Machine × ℕ × Machine). Steps z.0 z.1 g.kind z.2) (λ k. (sym d.machine_is k, sym q.cores.0 k, sym b.1 k)) h.made;
-            }),
+            (
+              g.kind,
+              subst (λ z. Does g.kind me.0 (records z me.0.core) (runs z)) (same x y (sym hand ∙ hand_is)) g.does,
+              record {
+                before = s;
+                then = after records runs stands s id 1 0 homes v';
+                met = d.paired;
+                meets = b.0;
+                seat = id;
+                knew = at;
+                knows = set_at s.views id me.0 v' at;
+                word = d.turn_is ∙ (q.turns.own.1 has ∙ ap (λ n. n + 1) (sym q.cores.0));
+                step = subst (λ (z : Machine × ℕ × Machine). Steps z.0 z.1 g.kind z.2) (λ k. (sym d.machine_is k, sym q.cores.0 k, sym b.1 k)) h.made;
+              },
+            ),
           ),
         )
       where

@@ -138,7 +138,7 @@ module _
       pub words : s.words ≡ 0 ∷ 0 ∷ 0 ∷ 0 ∷ []
       pub home :
           AtHome records runs stands s.homes c o both.base
-              both.registers both.other both.share both.other_share None
+          both.registers both.other both.share both.other_share None
 
     -- the rule: one view for both cores at the start, one for each core, and one for both at the end
     abbrev pub Ruled : S → State (Option S) (View B D) → Type 0
@@ -148,7 +148,7 @@ module _
     abbrev pub machine : (s : State (Option S) (View B D)) → Paired s → Machine
     machine s p =
         machine_of p.lock p.gate p.gate' p.left.phase p.right.phase
-            p.left.registers p.right.registers p.run
+        p.left.registers p.right.registers p.run
 
     -- what words and views stand for is one machine, and it is safe
     abbrev pub StandForOneSafeMachine : Type 0

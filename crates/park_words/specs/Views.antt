@@ -1,5 +1,5 @@
 -- What a seat knows, what it has in hand, and how a step changes what it knows.
-use Rattle.std.specs.Prelude.{◌≡◌, ◌==◌, ◌<◌, ◌+◌, ℕ, Bool, true, false, ◌⊎◌, List, [], ◌∷◌, Option, Some, None}
+use Rattle.std.specs.Prelude.{◌≡◌, ◌==◌, ◌<◌, ◌+◌, ℕ, Bool, true, false, List, [], ◌∷◌, Option, Some, None}
 use Rattle.core_state.specs.declared.registers.Record.{Record}
 use Rattle.core_state.specs.Registers.{starting}
 use Rattle.atomic_table.specs.Table.{Me}
@@ -39,6 +39,10 @@ abbrev pub in_hand : {S : Type 0} → Bool → List (ℕ × Option S)
 in_hand true = (0, None) ∷ []
 in_hand false = []
 
+-- a table of four words and one slot
+abbrev pub HasFourWords : TableId → Type 0
+HasFourWords z = (z.words ≡ 4) × (z.slots ≡ 1)
+
 -- what a contract sees of a seat: its table, its number there, and what it knows
 pub record Seated (B D : Type 0) : Type 0 where
   pub table : TableId
@@ -46,9 +50,9 @@ pub record Seated (B D : Type 0) : Type 0 where
   pub view : View B D
 
 module _ {B D : Type 0} where
-  -- a core at rest that has done nothing yet, in this stage
-  abbrev pub blank : View B D
-  blank = record {
+  -- the one view before the seats are dealt, for both resting cores
+  abbrev pub fresh : View B D
+  fresh = record {
     stage = New;
     core = 0;
     phase = Resting;
@@ -63,13 +67,13 @@ module _ {B D : Type 0} where
     held = false;
   }
 
-  -- the one view before the seats are dealt, for both resting cores
-  abbrev pub fresh : View B D
-  fresh = blank
-
   -- the view of a core as its seat is dealt
   abbrev pub dealt : ℕ → Option B → View B D
-  dealt c base = record (blank) { stage = One; core = c; base = base }
+  dealt c base = record (fresh) { stage = One; core = c; base = base }
+
+  -- the seat is one of these words, its core rests, and it does not have the turn
+  abbrev pub IsIdle : TableId → Seated B D → Type 0
+  IsIdle words s = (s.table ≡ words) × (s.view.phase ≡ Resting) × (s.view.turn ≡ false)
 
   -- what a seat knows in another phase, and whether it holds the other core at rest
   abbrev pub moved : View B D → Phase → Bool → View B D
@@ -91,11 +95,7 @@ module _ {B D : Type 0} where
 
   -- the view that the other seat is left with
   abbrev pub spent : View B D
-  spent = record (blank) { stage = Spent }
-
-  -- a seat knows this, and has in hand what goes with it
-  abbrev pub me_of : {S : Type 0} → View B D → Me (Option S) (View B D)
-  me_of v = (v, in_hand v.turn)
+  spent = record (fresh) { stage = Spent }
 
   -- the seat in another phase, and whether it holds the other core at rest
   abbrev pub seat_moved : Seated B D → Phase → Bool → Seated B D

@@ -1,7 +1,7 @@
 //! The one step that most calls are: an exchange on a word that makes an event, or changes nothing.
-ghost use Rattle.std.specs.Prelude.{◌≡◌, ◌<◌, Some, IfOk, IfErr};
+ghost use Rattle.std.specs.Prelude.{◌≡◌, ◌<◌, OnOk, OnErr, IfErr};
 ghost use Rattle.park_words.specs.Views.{gate_word, gate_place, seat_moved};
-ghost use Rattle.park_words.specs.Told.{Played, Found, MayExchange};
+ghost use Rattle.park_words.specs.Told.{AtWord, SawWord, AtGate, SawGate, MayExchange, MayPass};
 
 use crate::events::{Exchange, Happening};
 use crate::seat::{CoreSeat, Seen};
@@ -46,10 +46,10 @@ impl<V: Records> Words<V> {
         requires word { word < 4 }
         requires event { (phase ≡ E.phase) × (held ≡ E.held) }
         requires may { MayExchange V.records V.runs V.stands E.kind E.phase E.held word awaited next seat.old.view }
-        ensures moved { IfOk result (λ _. seat.new ≡ seat_moved seat.old phase held) }
-        ensures event { IfOk result (λ _. Played V.records V.runs V.stands (Some E.kind) word awaited seat.old.view seat.new.view) }
-        ensures kept { IfErr result (λ _. seat.new ≡ seat.old) }
-        ensures seen { IfErr result (λ e. Found V.records V.runs V.stands word awaited e.word seat.old.view) }
+        ensures moved { OnOk result (seat.new ≡ seat_moved seat.old phase held) }
+        ensures event { OnOk result (AtWord V.records V.runs V.stands E.kind word awaited seat.old seat.new) }
+        ensures kept { OnErr result (seat.new ≡ seat.old) }
+        ensures seen { IfErr result (λ e. SawWord V.records V.runs V.stands word awaited e.word seat.old) }
     {
         let found = self
             .table
@@ -68,23 +68,23 @@ impl<V: Records> Words<V> {
         &self,
         seat: &mut CoreSeat<V>,
         core: u8,
-        awaited: Gate,
-        next: Gate,
+        from: Gate,
+        to: Gate,
         phase: Phase,
         held: bool,
     ) -> Result<(), Seen>
         requires table { seat.old.table ≡ self.now }
         requires core { core < 2 }
         requires event { (phase ≡ E.phase) × (held ≡ E.held) }
-        requires may { MayExchange V.records V.runs V.stands E.kind E.phase E.held (gate_place core) (gate_word awaited) (gate_word next) seat.old.view }
-        ensures moved { IfOk result (λ _. seat.new ≡ seat_moved seat.old phase held) }
-        ensures event { IfOk result (λ _. Played V.records V.runs V.stands (Some E.kind) (gate_place core) (gate_word awaited) seat.old.view seat.new.view) }
-        ensures kept { IfErr result (λ _. seat.new ≡ seat.old) }
-        ensures seen { IfErr result (λ e. Found V.records V.runs V.stands (gate_place core) (gate_word awaited) e.word seat.old.view) }
+        requires may { MayPass V.records V.runs V.stands E.kind E.phase E.held core from to seat.old }
+        ensures moved { OnOk result (seat.new ≡ seat_moved seat.old phase held) }
+        ensures event { OnOk result (AtGate V.records V.runs V.stands E.kind core from seat.old seat.new) }
+        ensures kept { OnErr result (seat.new ≡ seat.old) }
+        ensures seen { IfErr result (λ e. SawGate V.records V.runs V.stands core from e.word seat.old) }
     {
         let word = gate_place(core);
-        let from = gate_number(awaited);
-        let to = gate_number(next);
-        self.exchange::<E>(seat, word, from, to, phase, held)
+        let awaited = gate_number(from);
+        let next = gate_number(to);
+        self.exchange::<E>(seat, word, awaited, next, phase, held)
     }
 }

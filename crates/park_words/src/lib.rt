@@ -1,5 +1,5 @@
-//! The lock, the turn and the gates of the two cores in four shared words: each step on them is one event of the
-//! parking machine.
+//! The lock, the turn and the gates of the two cores in four shared words: each step on them is one
+//! event of the parking machine.
 #![tactic(auto)]
 
 mod events;

@@ -1,9 +1,9 @@
 //! The lock.
-ghost use Rattle.std.specs.Prelude.{◌≡◌, ◌+◌, Some, IfOk, IfErr, IsNone};
+ghost use Rattle.std.specs.Prelude.{◌≡◌, OnOk, OnErr, IfErr, IsNone};
 ghost use Rattle.duo_machine.specs.declared.machine.Phase.TheVariants.{Running, Owning};
-ghost use Rattle.duo_machine.specs.declared.events.Kind.TheVariants.{Take, Give};
+ghost use Rattle.duo_machine.specs.declared.events.Kind.TheVariants.{Take};
 ghost use Rattle.park_words.specs.Views.{in_phase};
-ghost use Rattle.park_words.specs.Told.{Played, Found};
+ghost use Rattle.park_words.specs.Told.{AtLock, GaveLock, SawLock};
 
 use crate::events::{GiveLock, TakeLock};
 use crate::seat::{CoreSeat, Seen};
@@ -16,10 +16,10 @@ impl<V: Records> Words<V> {
     pub fn take_lock(&self, seat: &mut CoreSeat<V>) -> Result<(), Seen>
         requires table { seat.old.table ≡ self.now }
         requires running { seat.old.view.phase ≡ Running }
-        ensures owning { IfOk result (λ _. seat.new ≡ in_phase seat.old Owning) }
-        ensures event { IfOk result (λ _. Played V.records V.runs V.stands (Some Take) 0 0 seat.old.view seat.new.view) }
-        ensures kept { IfErr result (λ _. seat.new ≡ seat.old) }
-        ensures seen { IfErr result (λ e. Found V.records V.runs V.stands 0 0 e.word seat.old.view) }
+        ensures owning { OnOk result (seat.new ≡ in_phase seat.old Owning) }
+        ensures event { OnOk result (AtLock V.records V.runs V.stands Take 0 seat.old seat.new) }
+        ensures kept { OnErr result (seat.new ≡ seat.old) }
+        ensures seen { IfErr result (λ e. SawLock V.records V.runs V.stands 0 e.word seat.old) }
     {
         let mine = u64::from(seat.core) + 1;
         self.exchange::<TakeLock>(seat, 0, 0, mine, Phase::Owning, false)
@@ -31,7 +31,7 @@ impl<V: Records> Words<V> {
         requires owning { seat.old.view.phase ≡ Owning }
         requires unsaved { IsNone seat.old.view.registers.saved }
         ensures running { seat.new ≡ in_phase seat.old Running }
-        ensures event { Played V.records V.runs V.stands (Some Give) 0 (seat.old.view.core + 1) seat.old.view seat.new.view }
+        ensures event { GaveLock V.records V.runs V.stands seat.old seat.new }
     {
         let mine = u64::from(seat.core) + 1;
         let Ok(()) = self.exchange::<GiveLock>(seat, 0, mine, 0, Phase::Running, false) else {

@@ -1,11 +1,11 @@
 //! The gate of the other core.
-ghost use Rattle.std.specs.Prelude.{◌≡◌, false, Some, IfOk, IfErr, IsSome};
-ghost use Rattle.duo_machine.specs.declared.machine.Gate.TheVariants.{Rest as AtRest, Run, Parked as AtParked};
+ghost use Rattle.std.specs.Prelude.{◌≡◌, false, OnOk, OnErr, IfErr, IsSome};
+ghost use Rattle.duo_machine.specs.declared.machine.Gate.TheVariants.{Rest, Run, Parked};
 ghost use Rattle.duo_machine.specs.declared.machine.Phase.TheVariants.{Owning, Asking, Quiet};
-ghost use Rattle.duo_machine.specs.declared.events.Kind.TheVariants.{Hold, Ask, See, End};
-ghost use Rattle.duo_machine.specs.Machine.{other, let_go};
-ghost use Rattle.park_words.specs.Views.{gate_word, gate_place, held_gate, in_phase, in_phase_holding};
-ghost use Rattle.park_words.specs.Told.{Played, Found};
+ghost use Rattle.duo_machine.specs.declared.events.Kind.TheVariants.{Hold, Ask, See};
+ghost use Rattle.duo_machine.specs.Machine.{let_go};
+ghost use Rattle.park_words.specs.Views.{held_gate, in_phase, in_phase_holding};
+ghost use Rattle.park_words.specs.Told.{AtOther, SawOther, LetGo};
 
 use crate::events::{AskOther, EndQuiet, HoldOther, Look};
 use crate::exchange::{gate_number, gate_place};
@@ -34,10 +34,10 @@ impl<V: Records> Words<V> {
         requires table { seat.old.table ≡ self.now }
         requires owning { seat.old.view.phase ≡ Owning }
         requires saved { IsSome seat.old.view.registers.saved }
-        ensures quiet { IfOk result (λ _. seat.new ≡ in_phase_holding seat.old Quiet) }
-        ensures event { IfOk result (λ _. Played V.records V.runs V.stands (Some Hold) (gate_place (other seat.old.view.core)) (gate_word AtRest) seat.old.view seat.new.view) }
-        ensures kept { IfErr result (λ _. seat.new ≡ seat.old) }
-        ensures seen { IfErr result (λ e. Found V.records V.runs V.stands (gate_place (other seat.old.view.core)) (gate_word AtRest) e.word seat.old.view) }
+        ensures quiet { OnOk result (seat.new ≡ in_phase_holding seat.old Quiet) }
+        ensures event { OnOk result (AtOther V.records V.runs V.stands Hold Rest seat.old seat.new) }
+        ensures kept { OnErr result (seat.new ≡ seat.old) }
+        ensures seen { IfErr result (λ e. SawOther V.records V.runs V.stands Rest e.word seat.old) }
     {
         let beside = 1 - seat.core;
         self.exchange_gate::<HoldOther>(seat, beside, Gate::Rest, Gate::Held, Phase::Quiet, true)
@@ -48,10 +48,10 @@ impl<V: Records> Words<V> {
         requires table { seat.old.table ≡ self.now }
         requires owning { seat.old.view.phase ≡ Owning }
         requires saved { IsSome seat.old.view.registers.saved }
-        ensures asking { IfOk result (λ _. seat.new ≡ in_phase seat.old Asking) }
-        ensures event { IfOk result (λ _. Played V.records V.runs V.stands (Some Ask) (gate_place (other seat.old.view.core)) (gate_word Run) seat.old.view seat.new.view) }
-        ensures kept { IfErr result (λ _. seat.new ≡ seat.old) }
-        ensures seen { IfErr result (λ e. Found V.records V.runs V.stands (gate_place (other seat.old.view.core)) (gate_word Run) e.word seat.old.view) }
+        ensures asking { OnOk result (seat.new ≡ in_phase seat.old Asking) }
+        ensures event { OnOk result (AtOther V.records V.runs V.stands Ask Run seat.old seat.new) }
+        ensures kept { OnErr result (seat.new ≡ seat.old) }
+        ensures seen { IfErr result (λ e. SawOther V.records V.runs V.stands Run e.word seat.old) }
     {
         let beside = 1 - seat.core;
         self.exchange_gate::<AskOther>(seat, beside, Gate::Run, Gate::Asked, Phase::Asking, false)
@@ -61,10 +61,10 @@ impl<V: Records> Words<V> {
     pub fn look(&self, seat: &mut CoreSeat<V>) -> Result<(), Seen>
         requires table { seat.old.table ≡ self.now }
         requires asking { seat.old.view.phase ≡ Asking }
-        ensures quiet { IfOk result (λ _. seat.new ≡ in_phase seat.old Quiet) }
-        ensures event { IfOk result (λ _. Played V.records V.runs V.stands (Some See) (gate_place (other seat.old.view.core)) (gate_word AtParked) seat.old.view seat.new.view) }
-        ensures kept { IfErr result (λ _. seat.new ≡ seat.old) }
-        ensures seen { IfErr result (λ e. Found V.records V.runs V.stands (gate_place (other seat.old.view.core)) (gate_word AtParked) e.word seat.old.view) }
+        ensures quiet { OnOk result (seat.new ≡ in_phase seat.old Quiet) }
+        ensures event { OnOk result (AtOther V.records V.runs V.stands See Parked seat.old seat.new) }
+        ensures kept { OnErr result (seat.new ≡ seat.old) }
+        ensures seen { IfErr result (λ e. SawOther V.records V.runs V.stands Parked e.word seat.old) }
     {
         let word = gate_place(1 - seat.core);
         let found = self.table.shared.load::<Look>(&mut seat.seat, word);
@@ -82,12 +82,13 @@ impl<V: Records> Words<V> {
         requires quiet { seat.old.view.phase ≡ Quiet }
         requires no_step { seat.old.view.steps ≡ false }
         ensures owning { seat.new ≡ in_phase seat.old Owning }
-        ensures event { Played V.records V.runs V.stands (Some End) (gate_place (other seat.old.view.core)) (gate_word (held_gate seat.old.view.held)) seat.old.view seat.new.view }
+        ensures event { LetGo V.records V.runs V.stands seat.old seat.new }
     {
         let beside = 1 - seat.core;
         let from = known_gate(seat.held);
         let to = gate_let_go(seat.held);
-        let Ok(()) = self.exchange_gate::<EndQuiet>(seat, beside, from, to, Phase::Owning, false) else {
+        let Ok(()) = self.exchange_gate::<EndQuiet>(seat, beside, from, to, Phase::Owning, false)
+        else {
             unreachable!()
         };
     }

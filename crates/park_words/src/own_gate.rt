@@ -1,10 +1,10 @@
 //! The gate of the core itself.
-ghost use Rattle.std.specs.Prelude.{◌≡◌, ◌↔◌, ℕ, Some, IfOk, IfErr, IsSome, IsTrue};
+ghost use Rattle.std.specs.Prelude.{◌≡◌, OnOk, OnErr, IfErr, IsSome};
 ghost use Rattle.duo_machine.specs.declared.machine.Gate.TheVariants.{Rest as AtRest, Run, Asked, Freed};
 ghost use Rattle.duo_machine.specs.declared.machine.Phase.TheVariants.{Resting, Running, Parked};
 ghost use Rattle.duo_machine.specs.declared.events.Kind.TheVariants.{Start, Rest, Park, Leave};
-ghost use Rattle.park_words.specs.Views.{gate_word, gate_place, in_phase};
-ghost use Rattle.park_words.specs.Told.{Reads, Played, Found};
+ghost use Rattle.park_words.specs.Views.{in_phase};
+ghost use Rattle.park_words.specs.Told.{AtOwn, SawOwn, ReadsAsked};
 
 use crate::events::{LeaveGate, Load, ParkCore, RestCore, StartCore};
 use crate::exchange::{gate_number, gate_place};
@@ -18,10 +18,10 @@ impl<V: Records> Words<V> {
     pub fn start(&self, seat: &mut CoreSeat<V>) -> Result<(), Seen>
         requires table { seat.old.table ≡ self.now }
         requires resting { seat.old.view.phase ≡ Resting }
-        ensures running { IfOk result (λ _. seat.new ≡ in_phase seat.old Running) }
-        ensures event { IfOk result (λ _. Played V.records V.runs V.stands (Some Start) (gate_place seat.old.view.core) (gate_word AtRest) seat.old.view seat.new.view) }
-        ensures kept { IfErr result (λ _. seat.new ≡ seat.old) }
-        ensures seen { IfErr result (λ e. Found V.records V.runs V.stands (gate_place seat.old.view.core) (gate_word AtRest) e.word seat.old.view) }
+        ensures running { OnOk result (seat.new ≡ in_phase seat.old Running) }
+        ensures event { OnOk result (AtOwn V.records V.runs V.stands Start AtRest seat.old seat.new) }
+        ensures kept { OnErr result (seat.new ≡ seat.old) }
+        ensures seen { IfErr result (λ e. SawOwn V.records V.runs V.stands AtRest e.word seat.old) }
     {
         let core = seat.core;
         self.exchange_gate::<StartCore>(seat, core, Gate::Rest, Gate::Run, Phase::Running, false)
@@ -32,10 +32,10 @@ impl<V: Records> Words<V> {
         requires table { seat.old.table ≡ self.now }
         requires running { seat.old.view.phase ≡ Running }
         requires saved { IsSome seat.old.view.registers.saved }
-        ensures resting { IfOk result (λ _. seat.new ≡ in_phase seat.old Resting) }
-        ensures event { IfOk result (λ _. Played V.records V.runs V.stands (Some Rest) (gate_place seat.old.view.core) (gate_word Run) seat.old.view seat.new.view) }
-        ensures kept { IfErr result (λ _. seat.new ≡ seat.old) }
-        ensures seen { IfErr result (λ e. Found V.records V.runs V.stands (gate_place seat.old.view.core) (gate_word Run) e.word seat.old.view) }
+        ensures resting { OnOk result (seat.new ≡ in_phase seat.old Resting) }
+        ensures event { OnOk result (AtOwn V.records V.runs V.stands Rest Run seat.old seat.new) }
+        ensures kept { OnErr result (seat.new ≡ seat.old) }
+        ensures seen { IfErr result (λ e. SawOwn V.records V.runs V.stands Run e.word seat.old) }
     {
         let core = seat.core;
         self.exchange_gate::<RestCore>(seat, core, Gate::Run, Gate::Rest, Phase::Resting, false)
@@ -46,10 +46,10 @@ impl<V: Records> Words<V> {
         requires table { seat.old.table ≡ self.now }
         requires running { seat.old.view.phase ≡ Running }
         requires saved { IsSome seat.old.view.registers.saved }
-        ensures parked { IfOk result (λ _. seat.new ≡ in_phase seat.old Parked) }
-        ensures event { IfOk result (λ _. Played V.records V.runs V.stands (Some Park) (gate_place seat.old.view.core) (gate_word Asked) seat.old.view seat.new.view) }
-        ensures kept { IfErr result (λ _. seat.new ≡ seat.old) }
-        ensures seen { IfErr result (λ e. Found V.records V.runs V.stands (gate_place seat.old.view.core) (gate_word Asked) e.word seat.old.view) }
+        ensures parked { OnOk result (seat.new ≡ in_phase seat.old Parked) }
+        ensures event { OnOk result (AtOwn V.records V.runs V.stands Park Asked seat.old seat.new) }
+        ensures kept { OnErr result (seat.new ≡ seat.old) }
+        ensures seen { IfErr result (λ e. SawOwn V.records V.runs V.stands Asked e.word seat.old) }
     {
         let core = seat.core;
         self.exchange_gate::<ParkCore>(seat, core, Gate::Asked, Gate::Parked, Phase::Parked, false)
@@ -59,10 +59,10 @@ impl<V: Records> Words<V> {
     pub fn leave(&self, seat: &mut CoreSeat<V>) -> Result<(), Seen>
         requires table { seat.old.table ≡ self.now }
         requires parked { seat.old.view.phase ≡ Parked }
-        ensures running { IfOk result (λ _. seat.new ≡ in_phase seat.old Running) }
-        ensures event { IfOk result (λ _. Played V.records V.runs V.stands (Some Leave) (gate_place seat.old.view.core) (gate_word Freed) seat.old.view seat.new.view) }
-        ensures kept { IfErr result (λ _. seat.new ≡ seat.old) }
-        ensures seen { IfErr result (λ e. Found V.records V.runs V.stands (gate_place seat.old.view.core) (gate_word Freed) e.word seat.old.view) }
+        ensures running { OnOk result (seat.new ≡ in_phase seat.old Running) }
+        ensures event { OnOk result (AtOwn V.records V.runs V.stands Leave Freed seat.old seat.new) }
+        ensures kept { OnErr result (seat.new ≡ seat.old) }
+        ensures seen { IfErr result (λ e. SawOwn V.records V.runs V.stands Freed e.word seat.old) }
     {
         let core = seat.core;
         self.exchange_gate::<LeaveGate>(seat, core, Gate::Freed, Gate::Run, Phase::Running, false)
@@ -72,7 +72,7 @@ impl<V: Records> Words<V> {
     pub fn asked(&self, seat: &mut CoreSeat<V>) -> bool
         requires { seat.old.table ≡ self.now }
         ensures kept { seat.new ≡ seat.old }
-        ensures asked { (word : ℕ) × (IsTrue result ↔ (word ≡ gate_word Asked)) × Reads V.records V.runs V.stands (gate_place seat.old.view.core) word seat.old.view }
+        ensures asked { ReadsAsked V.records V.runs V.stands result seat.old }
     {
         let word = gate_place(seat.core);
         let found = self.table.shared.load::<Load>(&mut seat.seat, word);

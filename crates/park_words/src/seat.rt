@@ -13,7 +13,8 @@ pub struct Seen {
     pub word: u64,
 }
 
-/// What a core makes its steps with. Contracts also see what its core did to the value, and the base.
+/// What a core makes its steps with. Contracts also see what its core did to the value, and the
+/// base.
 #[derive(Drop)]
 pub struct CoreSeat<V: Records> {
     pub(crate) seat: Seat<Option<V>, View<V::Base, V::Did>>,

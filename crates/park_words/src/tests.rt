@@ -2,7 +2,7 @@
 ghost use Rattle.std.specs.Prelude.{◌≡◌, ◌+◌, ◌<◌, true, false, [], sum, slice_index_or, replicate, None, Some};
 ghost use Rattle.std.specs.Thread.{IsSync};
 ghost use Rattle.core_state.specs.Registers.{starting};
-ghost use Rattle.duo_machine.specs.declared.machine.Phase.TheVariants.{Resting};
+ghost use Rattle.park_words.specs.Views.{IsIdle};
 ghost use Rattle.park_words.specs.Told.{Known, given};
 
 use crate::{CoreSeat, Seen, Words};
@@ -154,9 +154,21 @@ fn parked(alloc: Global) -> Option<([u64; 4], bool)> {
 
 #[test]
 fn rows_of_steps(rt: HostRuntime) {
-    assert_eq!(rt; turns(rt.alloc()), Some(1), "turn of 0, turn of 1, back, turn of 1");
-    assert_eq!(rt; held_at_rest(rt.alloc()), Some((0, 5)), "core 1 is held at rest");
-    assert_eq!(rt; parked(rt.alloc()), Some(([1, 1, 2, 3], true)), "core 1 parks and leaves");
+    assert_eq!(rt;
+        turns(rt.alloc()),
+        Some(1),
+        "turn of 0, turn of 1, back, turn of 1"
+    );
+    assert_eq!(rt;
+        held_at_rest(rt.alloc()),
+        Some((0, 5)),
+        "core 1 is held at rest"
+    );
+    assert_eq!(rt;
+        parked(rt.alloc()),
+        Some(([1, 1, 2, 3], true)),
+        "core 1 parks and leaves"
+    );
 }
 
 fn take_and_give<R: Wait>(rt: &R, words: &Words<Tally>, seat: &mut CoreSeat<Tally>)
@@ -202,12 +214,12 @@ fn two_threads<R: Threads + Wait + Sync>(rt: &R, alloc: Global) -> Option<u64> {
     let (zero, one) = join(
         rt,
         move || -> CoreSeat<Tally>
-            requires { IsSync R.row × (zero.table ≡ shared.now) × (zero.view.phase ≡ Resting) × (zero.view.turn ≡ false) }
-            ensures { (result.table ≡ shared.entry.now) × (result.view.phase ≡ Resting) × (result.view.turn ≡ false) }
+            requires { IsSync R.row × IsIdle shared.now zero }
+            ensures { IsIdle shared.entry.now result }
         { take_turns(rt, shared, zero, 3000) },
         move || -> CoreSeat<Tally>
-            requires { IsSync R.row × (one.table ≡ shared.now) × (one.view.phase ≡ Resting) × (one.view.turn ≡ false) }
-            ensures { (result.table ≡ shared.entry.now) × (result.view.phase ≡ Resting) × (result.view.turn ≡ false) }
+            requires { IsSync R.row × IsIdle shared.now one }
+            ensures { IsIdle shared.entry.now result }
         { take_turns(rt, shared, one, 3000) },
     );
     let tally = words.close(zero, one);

@@ -1,7 +1,6 @@
 //! Taking the turn with the value, and giving both back.
-ghost use Rattle.std.specs.Prelude.{◌≡◌, ◌+◌, List, true, Option, Some, None, IfOk, IfErr};
-ghost use Rattle.duo_machine.specs.declared.events.Kind.{Kind};
-ghost use Rattle.park_words.specs.Told.{HasTaken, Known, Played, Found, Gives, given};
+ghost use Rattle.std.specs.Prelude.{◌≡◌, List, true, OnOk, OnErr, IfOk, IfErr};
+ghost use Rattle.park_words.specs.Told.{HasTaken, Known, TookTurn, SawTurn, Gives, GaveTurn, given};
 
 use crate::plays::{GiveTurn, Share, TakeTurn};
 use crate::seat::{CoreSeat, Seen};
@@ -10,15 +9,15 @@ use core_state::Records;
 use std::marker::Brand;
 
 impl<V: Records> Words<V> {
-    /// The value, where nobody has the turn. It has the seat's registers, and stands for what the core did so far and
-    /// for what the other core did.
+    /// The value, where nobody has the turn. It has the seat's registers, and stands for what the core
+    /// did so far and for what the other core did.
     pub fn take_turn(&self, seat: &mut CoreSeat<V>) -> Result<V, Seen>
         requires { seat.old.table ≡ self.now }
-        ensures taken { IfOk result (λ _. HasTaken seat.old seat.new) }
+        ensures taken { OnOk result (HasTaken seat.old seat.new) }
         ensures value { IfOk result (λ x. Known V.records V.runs V.stands x seat.new.view) }
-        ensures no_event { IfOk result (λ _. Played V.records V.runs V.stands None 1 0 seat.old.view seat.new.view) }
-        ensures kept { IfErr result (λ _. seat.new ≡ seat.old) }
-        ensures seen { IfErr result (λ e. Found V.records V.runs V.stands 1 0 e.word seat.old.view) }
+        ensures no_event { OnOk result (TookTurn V.records V.runs V.stands seat.old seat.new) }
+        ensures kept { OnErr result (seat.new ≡ seat.old) }
+        ensures seen { IfErr result (λ e. SawTurn V.records V.runs V.stands e.word seat.old) }
     {
         let shared = &self.table.shared;
         let mine = u64::from(seat.core) + 1;
@@ -32,15 +31,15 @@ impl<V: Records> Words<V> {
         Ok(value)
     }
 
-    /// The value goes home and the turn is free. The value may differ from what was taken by one event of this core:
-    /// Save, Back, Set, Fetch, Begin or Done.
+    /// The value goes home and the turn is free. The value may differ from what was taken by one event
+    /// of this core: Save, Back, Set, Fetch, Begin or Done.
     pub fn give_turn(&self, seat: &mut CoreSeat<V>, value: V)
         ghost share: { List V.Did }
         requires table { seat.old.table ≡ self.now }
         requires turn { seat.old.view.turn ≡ true }
         requires value { Gives V.records V.runs V.stands seat.old.view value share }
         ensures given { seat.new ≡ given V.records V.runs seat.old value share }
-        ensures event { (kind : Option Kind) × Played V.records V.runs V.stands kind 1 (seat.old.view.core + 1) seat.old.view seat.new.view }
+        ensures event { GaveTurn V.records V.runs V.stands value seat.old seat.new }
     {
         self.give::<Brand>(seat, value)
     }
@@ -50,7 +49,7 @@ impl<V: Records> Words<V> {
         requires turn { seat.old.view.turn ≡ true }
         requires value { Gives V.records V.runs V.stands seat.old.view value J.share }
         ensures given { seat.new ≡ given V.records V.runs seat.old value J.share }
-        ensures event { (kind : Option Kind) × Played V.records V.runs V.stands kind 1 (seat.old.view.core + 1) seat.old.view seat.new.view }
+        ensures event { GaveTurn V.records V.runs V.stands value seat.old seat.new }
     {
         let shared = &self.table.shared;
         let registers = value.record(seat.core);

@@ -1,7 +1,6 @@
 //! The four words and the value, made and taken apart.
-ghost use Rattle.std.specs.Prelude.{◌≡◌, ◌<◌, [], Some, IfOk, IfErr, false};
-ghost use Rattle.duo_machine.specs.declared.machine.Phase.TheVariants.{Resting};
-ghost use Rattle.park_words.specs.Views.{fresh, dealt};
+ghost use Rattle.std.specs.Prelude.{◌≡◌, ◌<◌, [], Some, IfOk, IfErr};
+ghost use Rattle.park_words.specs.Views.{fresh, dealt, IsIdle};
 ghost use Rattle.park_words.specs.Told.{IsFirst, IsLast};
 
 use crate::plays::{Close, Deal, Origin};
@@ -15,9 +14,6 @@ use std::alloc::{AllocFailed, Global};
 use std::marker::{Brand, Model};
 use std::snapshot::Snapshot;
 
-
-
-
 /// The shared words of the two cores, with the value that goes with the turn.
 #[derive(Drop)]
 pub struct Words<V: Records> {
@@ -25,7 +21,7 @@ pub struct Words<V: Records> {
 }
 
 impl<V: Records> Model for Words<V> {
-    ghost use Rattle.std.specs.Prelude.{◌≡◌};
+    ghost use Rattle.park_words.specs.Views.{HasFourWords};
     ghost use Rattle.atomic_table.specs.Seated.{TableId, table_id_coded};
 
     ghost Value = { TableId };
@@ -34,7 +30,7 @@ impl<V: Records> Model for Words<V> {
 
     ghost view = { λ w. w.table.shared.table_id };
 
-    ghost invariant = { λ w. (w.table.shared.table_id.words ≡ 4) × (w.table.shared.table_id.slots ≡ 1) };
+    ghost invariant = { λ w. HasFourWords w.table.shared.table_id };
 }
 
 /// There was no memory. The value comes back.
@@ -47,7 +43,8 @@ fn deal<V: Records, O: Origin<V::Base>>(
     table: &Table<Option<V>, View<V::Base, V::Did>, Snapshot<V>, Rule<V>, Global>,
     seat: &mut Seat<Option<V>, View<V::Base, V::Did>>,
 ) -> Seat<Option<V>, View<V::Base, V::Did>>
-    requires table { (seat.old.table_id ≡ table.now.shared.table_id) × (0 < table.now.shared.table_id.words) }
+    requires table { seat.old.table_id ≡ table.now.shared.table_id }
+    requires words { 0 < table.now.shared.table_id.words }
     requires first { seat.old.me ≡ (fresh, []) }
     requires value { IsFirst V.records V.runs V.stands table.now.shared.key.value O.base }
     ensures tables { (seat.new.table_id ≡ seat.old.table_id) × (result.table_id ≡ seat.old.table_id) }
@@ -77,7 +74,8 @@ impl<V: Records> Words<V> {
         ghost base: { V.Base }
         requires { IsFirst V.records V.runs V.stands value (Some base) }
         ensures tables { IfOk result (λ r. (r.1.table ≡ r.0) × (r.2.table ≡ r.0)) }
-        ensures seats { IfOk result (λ r. (r.1.view ≡ dealt 0 (Some base)) × (r.2.view ≡ dealt 1 (Some base))) }
+        ensures left { IfOk result (λ r. r.1.view ≡ dealt 0 (Some base)) }
+        ensures right { IfOk result (λ r. r.2.view ≡ dealt 1 (Some base)) }
         ensures back { IfErr result (λ e. e.value ≡ value) }
     {
         let about = Snapshot::of(&value);
@@ -97,7 +95,9 @@ impl<V: Records> Words<V> {
             Err(Refused { mut slots }) => {
                 let slot = slots.pop();
                 slots.destroy_empty();
-                let Some(Some(value)) = slot else { unreachable!() };
+                let Some(Some(value)) = slot else {
+                    unreachable!()
+                };
                 Err(NoWords { value })
             }
         }
@@ -105,9 +105,8 @@ impl<V: Records> Words<V> {
 
     /// The value, once both cores rest and neither has the turn.
     pub fn close(self, a: CoreSeat<V>, b: CoreSeat<V>) -> V
-        requires tables { (a.table ≡ self) × (b.table ≡ self) }
-        requires resting { (a.view.phase ≡ Resting) × (b.view.phase ≡ Resting) }
-        requires no_turn { (a.view.turn ≡ false) × (b.view.turn ≡ false) }
+        requires first { IsIdle self a }
+        requires second { IsIdle self b }
         ensures { IsLast V.records V.runs V.stands result a.view b.view }
     {
         let CoreSeat { mut seat, .. } = a;

@@ -1,4 +1,4 @@
-use Rattle.std.proofs.Common.{rules, ap, arith}
+use Rattle.std.proofs.Common.{ap, arith}
 use Rattle.park_words.proofs.May.{may_ask}
 use Rattle.park_words.proofs.words.Words.ask.Goals as goal
 

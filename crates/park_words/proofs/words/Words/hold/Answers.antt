@@ -1,4 +1,4 @@
-use Rattle.std.proofs.Common.{rules, ap, arith}
+use Rattle.std.proofs.Common.{ap, arith}
 use Rattle.park_words.proofs.May.{may_hold}
 use Rattle.park_words.proofs.words.Words.hold.Goals as goal
 

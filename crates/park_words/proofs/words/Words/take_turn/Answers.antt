@@ -1,4 +1,4 @@
-use Rattle.std.proofs.Common.{rules, ◌≡◌, ℕ, ◌+◌, ◌∷◌, sym, ap, ◌∙◌, Some}
+use Rattle.std.proofs.Common.{rules, ◌∷◌, sym, ap, ◌∙◌, Some}
 use Rattle.atomic_table.specs.Table.{rest}
 use Rattle.park_words.proofs.TurnSteps.{takes_turn}
 use Rattle.park_words.proofs.words.Words.take_turn.Goals as goal
