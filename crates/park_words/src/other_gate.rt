@@ -1,0 +1,95 @@
+//! The gate of the other core.
+ghost use Rattle.std.specs.Prelude.{◌≡◌, false, OnOk, OnErr, IfErr, IsSome};
+ghost use Rattle.duo_machine.specs.declared.machine.Gate.TheVariants.{Rest, Run, Parked};
+ghost use Rattle.duo_machine.specs.declared.machine.Phase.TheVariants.{Owning, Asking, Quiet};
+ghost use Rattle.duo_machine.specs.declared.events.Kind.TheVariants.{Hold, Ask, See};
+ghost use Rattle.duo_machine.specs.Machine.{let_go};
+ghost use Rattle.park_words.specs.Views.{held_gate, in_phase, in_phase_holding};
+ghost use Rattle.park_words.specs.Told.{AtOther, SawOther, LetGo};
+
+use crate::events::{AskOther, EndQuiet, HoldOther, Look};
+use crate::exchange::{gate_number, gate_place};
+use crate::seat::{CoreSeat, Seen};
+use crate::words::Words;
+use core_state::Records;
+use duo_machine::{Gate, Phase};
+
+/// The other core's gate, as a quiet core knows it.
+fn known_gate(held: bool) -> Gate
+    ensures { result ≡ held_gate held }
+{
+    if held { Gate::Held } else { Gate::Parked }
+}
+
+/// The same, once the quiet core is done.
+fn gate_let_go(held: bool) -> Gate
+    ensures { result ≡ let_go (held_gate held) }
+{
+    if held { Gate::Rest } else { Gate::Freed }
+}
+
+impl<V: Records> Words<V> {
+    /// Hold: the masked owner holds the other core's gate shut, where it is at rest.
+    pub fn hold(&self, seat: &mut CoreSeat<V>) -> Result<(), Seen>
+        requires table { seat.old.table ≡ self.now }
+        requires owning { seat.old.view.phase ≡ Owning }
+        requires saved { IsSome seat.old.view.registers.saved }
+        ensures quiet { OnOk result (seat.new ≡ in_phase_holding seat.old Quiet) }
+        ensures event { OnOk result (AtOther V.records V.runs V.stands Hold Rest seat.old seat.new) }
+        ensures kept { OnErr result (seat.new ≡ seat.old) }
+        ensures seen { IfErr result (λ e. SawOther V.records V.runs V.stands Rest e.word seat.old) }
+    {
+        let beside = 1 - seat.core;
+        self.exchange_gate::<HoldOther>(seat, beside, Gate::Rest, Gate::Held, Phase::Quiet, true)
+    }
+
+    /// Ask: the masked owner asks the other core to park, where it runs.
+    pub fn ask(&self, seat: &mut CoreSeat<V>) -> Result<(), Seen>
+        requires table { seat.old.table ≡ self.now }
+        requires owning { seat.old.view.phase ≡ Owning }
+        requires saved { IsSome seat.old.view.registers.saved }
+        ensures asking { OnOk result (seat.new ≡ in_phase seat.old Asking) }
+        ensures event { OnOk result (AtOther V.records V.runs V.stands Ask Run seat.old seat.new) }
+        ensures kept { OnErr result (seat.new ≡ seat.old) }
+        ensures seen { IfErr result (λ e. SawOther V.records V.runs V.stands Run e.word seat.old) }
+    {
+        let beside = 1 - seat.core;
+        self.exchange_gate::<AskOther>(seat, beside, Gate::Run, Gate::Asked, Phase::Asking, false)
+    }
+
+    /// See: the core that asked is quiet, where the other one is parked.
+    pub fn look(&self, seat: &mut CoreSeat<V>) -> Result<(), Seen>
+        requires table { seat.old.table ≡ self.now }
+        requires asking { seat.old.view.phase ≡ Asking }
+        ensures quiet { OnOk result (seat.new ≡ in_phase seat.old Quiet) }
+        ensures event { OnOk result (AtOther V.records V.runs V.stands See Parked seat.old seat.new) }
+        ensures kept { OnErr result (seat.new ≡ seat.old) }
+        ensures seen { IfErr result (λ e. SawOther V.records V.runs V.stands Parked e.word seat.old) }
+    {
+        let word = gate_place(1 - seat.core);
+        let found = self.table.shared.load::<Look>(&mut seat.seat, word);
+        if found != gate_number(Gate::Parked) {
+            return Err(Seen { word: found });
+        }
+        seat.phase = Phase::Quiet;
+        seat.held = false;
+        Ok(())
+    }
+
+    /// End: the quiet core, with no step of its own, lets the other one go. It is never refused.
+    pub fn end(&self, seat: &mut CoreSeat<V>)
+        requires table { seat.old.table ≡ self.now }
+        requires quiet { seat.old.view.phase ≡ Quiet }
+        requires no_step { seat.old.view.steps ≡ false }
+        ensures owning { seat.new ≡ in_phase seat.old Owning }
+        ensures event { LetGo V.records V.runs V.stands seat.old seat.new }
+    {
+        let beside = 1 - seat.core;
+        let from = known_gate(seat.held);
+        let to = gate_let_go(seat.held);
+        let Ok(()) = self.exchange_gate::<EndQuiet>(seat, beside, from, to, Phase::Owning, false)
+        else {
+            unreachable!()
+        };
+    }
+}

@@ -1,0 +1,232 @@
+//! Rows of steps on one thread, and two threads that take turns.
+ghost use Rattle.std.specs.Prelude.{◌≡◌, ◌+◌, ◌<◌, true, false, [], sum, slice_index_or, replicate, None, Some};
+ghost use Rattle.std.specs.Thread.{IsSync};
+ghost use Rattle.core_state.specs.Registers.{starting};
+ghost use Rattle.park_words.specs.Views.{IsIdle};
+ghost use Rattle.park_words.specs.Told.{Known, given};
+
+use crate::{CoreSeat, Seen, Words};
+use core_state::{Record, Records};
+use std::alloc::Global;
+use std::sync::Wait;
+use std::thread;
+use std::thread::{Threads, join};
+
+/// What both cores added up, and how often the turn was taken.
+#[derive(Drop)]
+struct Tally {
+    registers: [Record; 2],
+    running: Option<u8>,
+    total: u64,
+    rounds: u64,
+}
+
+impl Tally {
+    fn new() -> Tally
+        ensures registers { result.registers ≡ replicate 2 starting }
+        ensures rest { (result.running ≡ None) × (result.total ≡ 0) }
+    {
+        Tally {
+            registers: [Record::starting(); 2],
+            running: None,
+            total: 0,
+            rounds: 0,
+        }
+    }
+}
+
+impl Records for Tally {
+    type Base = u64;
+
+    type Did = u64;
+
+    ghost records = { λ t c. slice_index_or t.registers c starting };
+
+    ghost runs = { λ t. t.running };
+
+    ghost stands = { λ t b left right. t.total ≡ b + sum left + sum right };
+
+    fn record(&self, core: u8) -> Record {
+        self.registers[usize::from(core)]
+    }
+
+    fn running(&self) -> Option<u8> {
+        self.running
+    }
+}
+
+/// Gives the value back as it was taken.
+fn give_back<V: Records>(words: &Words<V>, seat: &mut CoreSeat<V>, value: V)
+    requires table { seat.old.table ≡ words.now }
+    requires turn { seat.old.view.turn ≡ true }
+    requires same { Known V.records V.runs V.stands value seat.old.view }
+    ensures { seat.new ≡ given V.records V.runs seat.old value seat.old.view.share }
+{
+    words.give_turn(seat, value);
+}
+
+fn turns(alloc: Global) -> Option<u64> {
+    let Ok((words, mut zero, mut one)) = Words::new(alloc, Tally::new()) else {
+        return None;
+    };
+    let Ok(tally) = words.take_turn(&mut zero) else {
+        return None;
+    };
+    let Err(Seen { word }) = words.take_turn(&mut one) else {
+        return None;
+    };
+    give_back(&words, &mut zero, tally);
+    let Ok(tally) = words.take_turn(&mut one) else {
+        return None;
+    };
+    give_back(&words, &mut one, tally);
+    let _tally = words.close(zero, one);
+    Some(word)
+}
+
+fn held_at_rest(alloc: Global) -> Option<(u64, u64)> {
+    let Ok((words, mut zero, mut one)) = Words::new(alloc, Tally::new()) else {
+        return None;
+    };
+    let Ok(()) = words.start(&mut zero) else {
+        return None;
+    };
+    let Ok(()) = words.take_lock(&mut zero) else {
+        return None;
+    };
+    let Err(asked) = words.ask(&mut zero) else {
+        return None;
+    };
+    let Ok(()) = words.hold(&mut zero) else {
+        return None;
+    };
+    let Err(held) = words.start(&mut one) else {
+        return None;
+    };
+    words.end(&mut zero);
+    let Ok(()) = words.start(&mut one) else {
+        return None;
+    };
+    Some((asked.word, held.word))
+}
+
+fn parked(alloc: Global) -> Option<([u64; 4], bool)> {
+    let Ok((words, mut zero, mut one)) = Words::new(alloc, Tally::new()) else {
+        return None;
+    };
+    let Ok(()) = words.start(&mut zero) else {
+        return None;
+    };
+    let Ok(()) = words.start(&mut one) else {
+        return None;
+    };
+    let Ok(()) = words.take_lock(&mut zero) else {
+        return None;
+    };
+    let Err(lock) = words.take_lock(&mut one) else {
+        return None;
+    };
+    let Err(running) = words.hold(&mut zero) else {
+        return None;
+    };
+    let Ok(()) = words.ask(&mut zero) else {
+        return None;
+    };
+    let Err(unparked) = words.look(&mut zero) else {
+        return None;
+    };
+    let asked = words.asked(&mut one);
+    let Ok(()) = words.park(&mut one) else {
+        return None;
+    };
+    let Ok(()) = words.look(&mut zero) else {
+        return None;
+    };
+    let Err(parked) = words.leave(&mut one) else {
+        return None;
+    };
+    words.end(&mut zero);
+    let Ok(()) = words.leave(&mut one) else {
+        return None;
+    };
+    Some(([lock.word, running.word, unparked.word, parked.word], asked))
+}
+
+#[test]
+fn rows_of_steps(rt: HostRuntime) {
+    assert_eq!(rt;
+        turns(rt.alloc()),
+        Some(1),
+        "turn of 0, turn of 1, back, turn of 1"
+    );
+    assert_eq!(rt;
+        held_at_rest(rt.alloc()),
+        Some((0, 5)),
+        "core 1 is held at rest"
+    );
+    assert_eq!(rt;
+        parked(rt.alloc()),
+        Some(([1, 1, 2, 3], true)),
+        "core 1 parks and leaves"
+    );
+}
+
+fn take_and_give<R: Wait>(rt: &R, words: &Words<Tally>, seat: &mut CoreSeat<Tally>)
+    requires table { seat.old.table ≡ words.now }
+    requires idle { seat.old.view.turn ≡ false }
+    ensures table { seat.new.table ≡ seat.old.table }
+    ensures phase { seat.new.view.phase ≡ seat.old.view.phase }
+    ensures idle { seat.new.view.turn ≡ false }
+{
+    for _ in rt.forever() {
+        if let Ok(mut tally) = words.take_turn(seat) {
+            tally.rounds = tally.rounds.wrapping_add(1);
+            give_back(words, seat, tally);
+            return;
+        }
+        thread::yield_now();
+    }
+}
+
+fn take_turns<R: Wait>(
+    rt: &R,
+    words: &Words<Tally>,
+    mut seat: CoreSeat<Tally>,
+    rounds: u32,
+) -> CoreSeat<Tally>
+    requires table { seat.table ≡ words.now }
+    requires idle { seat.view.turn ≡ false }
+    ensures table { result.table ≡ words.now }
+    ensures phase { result.view.phase ≡ seat.view.phase }
+    ensures idle { result.view.turn ≡ false }
+{
+    for _ in 0..rounds {
+        take_and_give(rt, words, &mut seat);
+    }
+    seat
+}
+
+fn two_threads<R: Threads + Wait + Sync>(rt: &R, alloc: Global) -> Option<u64> {
+    let Ok((words, zero, one)) = Words::new(alloc, Tally::new()) else {
+        return None;
+    };
+    let shared = &words;
+    let (zero, one) = join(
+        rt,
+        move || -> CoreSeat<Tally>
+            requires { IsSync R.row × IsIdle shared.now zero }
+            ensures { IsIdle shared.entry.now result }
+        { take_turns(rt, shared, zero, 3000) },
+        move || -> CoreSeat<Tally>
+            requires { IsSync R.row × IsIdle shared.now one }
+            ensures { IsIdle shared.entry.now result }
+        { take_turns(rt, shared, one, 3000) },
+    );
+    let tally = words.close(zero, one);
+    Some(tally.rounds)
+}
+
+#[test]
+fn two_threads_take_turns(rt: HostRuntime) {
+    assert_eq!(rt; two_threads(&rt, rt.alloc()), Some(6000));
+}
