@@ -1,5 +1,5 @@
 //! A core's seat at the shared words.
-ghost use Rattle.std.specs.Prelude.{◌≡◌};
+ghost use Rattle.std.specs.Prelude.{◌≡◌, ◌<◌};
 
 use crate::view::View;
 use atomic_table::Seat;
@@ -38,7 +38,8 @@ impl<V: Records> Model for CoreSeat<V> {
 impl<V: Records> CoreSeat<V> {
     /// 0 or 1.
     pub fn core(&self) -> u8
-        ensures { result ≡ self.now.view.core }
+        ensures core { result ≡ self.now.view.core }
+        ensures small { result < 2 }
     {
         self.core
     }

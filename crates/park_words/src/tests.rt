@@ -1,12 +1,13 @@
 //! Rows of steps on one thread, and two threads that take turns.
-ghost use Rattle.std.specs.Prelude.{◌≡◌, ◌+◌, ◌<◌, true, false, [], sum, slice_index_or, replicate, None, Some};
+ghost use Rattle.std.specs.Prelude.{◌≡◌, ◌+◌, ◌<◌, true, false, [], sum, slice_index_or, replicate, None, Some, ◌-◌, IsSome, IfSome};
 ghost use Rattle.std.specs.Thread.{IsSync};
-ghost use Rattle.core_state.specs.Registers.{starting};
+ghost use Rattle.core_state.specs.Registers.{starting, restored};
+ghost use Rattle.duo_machine.specs.declared.machine.Phase.TheVariants.{Owning};
 ghost use Rattle.park_words.specs.Views.{IsIdle};
-ghost use Rattle.park_words.specs.Told.{Known, given};
+ghost use Rattle.park_words.specs.Told.{Known, Gives, given};
 
 use crate::{CoreSeat, Seen, Words};
-use core_state::{Record, Records};
+use core_state::{Record, Records, Regs, restore};
 use std::alloc::Global;
 use std::sync::Wait;
 use std::thread;
@@ -35,6 +36,18 @@ impl Tally {
     }
 }
 
+impl Tally {
+    fn put_back(&mut self, core: u8)
+        requires core { core < 2 }
+        requires saved { IsSome (slice_index_or self.old.registers core starting).saved }
+        ensures own { slice_index_or self.new.registers core starting ≡ restored (slice_index_or self.old.registers core starting) }
+        ensures other { slice_index_or self.new.registers (1 - core) starting ≡ slice_index_or self.old.registers (1 - core) starting }
+        ensures rest { (self.new.running ≡ self.old.running) × (self.new.total ≡ self.old.total) }
+    {
+        restore(&mut self.registers[usize::from(core)]);
+    }
+}
+
 impl Records for Tally {
     type Base = u64;
 
@@ -55,6 +68,16 @@ impl Records for Tally {
     }
 }
 
+/// Gives the value back, with at most one event done to it and nothing new in the share.
+fn give_done<V: Records>(words: &Words<V>, seat: &mut CoreSeat<V>, value: V)
+    requires table { seat.old.table ≡ words.now }
+    requires turn { seat.old.view.turn ≡ true }
+    requires value { Gives V.records V.runs V.stands seat.old.view value seat.old.view.share }
+    ensures { seat.new ≡ given V.records V.runs seat.old value seat.old.view.share }
+{
+    words.give_turn(seat, value);
+}
+
 /// Gives the value back as it was taken.
 fn give_back<V: Records>(words: &Words<V>, seat: &mut CoreSeat<V>, value: V)
     requires table { seat.old.table ≡ words.now }
@@ -62,7 +85,25 @@ fn give_back<V: Records>(words: &Words<V>, seat: &mut CoreSeat<V>, value: V)
     requires same { Known V.records V.runs V.stands value seat.old.view }
     ensures { seat.new ≡ given V.records V.runs seat.old value seat.old.view.share }
 {
-    words.give_turn(seat, value);
+    give_done(words, seat, value);
+}
+
+/// Puts the core's own registers back in force, where the turn is free.
+fn restore_own(words: &Words<Tally>, seat: &mut CoreSeat<Tally>) -> Option<Record>
+    requires table { seat.old.table ≡ words.now }
+    requires owning { seat.old.view.phase ≡ Owning }
+    requires saved { IsSome seat.old.view.registers.saved }
+    ensures table { seat.new.table ≡ seat.old.table }
+    ensures owning { seat.new.view.phase ≡ Owning }
+    ensures own { IfSome result (λ r. (r ≡ restored seat.old.view.registers) × (seat.new.view.registers ≡ r)) }
+{
+    let Ok(mut tally) = words.take_turn(seat) else {
+        return None;
+    };
+    tally.put_back(seat.core());
+    let own = tally.record(seat.core());
+    give_done(words, seat, tally);
+    Some(own)
 }
 
 fn turns(alloc: Global) -> Option<u64> {
@@ -82,6 +123,32 @@ fn turns(alloc: Global) -> Option<u64> {
     give_back(&words, &mut one, tally);
     let _tally = words.close(zero, one);
     Some(word)
+}
+
+fn lock_and_back(alloc: Global) -> Option<(u64, Record)> {
+    let Ok((words, mut zero, mut one)) = Words::new(alloc, Tally::new()) else {
+        return None;
+    };
+    let Ok(()) = words.start(&mut zero) else {
+        return None;
+    };
+    let Ok(()) = words.start(&mut one) else {
+        return None;
+    };
+    let Ok(()) = words.take_lock(&mut one) else {
+        return None;
+    };
+    let Err(taken) = words.take_lock(&mut zero) else {
+        return None;
+    };
+    let Ok(()) = words.rest(&mut zero) else {
+        return None;
+    };
+    let Some(own) = restore_own(&words, &mut one) else {
+        return None;
+    };
+    words.give_lock(&mut one);
+    Some((taken.word, own))
 }
 
 fn held_at_rest(alloc: Global) -> Option<(u64, u64)> {
