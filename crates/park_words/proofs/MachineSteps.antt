@@ -21,54 +21,126 @@ by_core P zero small a b = a
 by_core P (suc zero) small a b = b
 by_core P (suc (suc c)) small a b = absurd (omega arith)
 
-module _ (c lock : ℕ) (g g' : Gate) (p p' : Phase) (r r' : Record) (run : Option ℕ) (small : c < 2) where
-  pub start_step : p ≡ Resting → g ≡ AtRest → Steps (machine_by c lock g g' p p' r r' run) c (Some Start) (machine_by c lock Run g' Running p' r r' run)
-  start_step a b = by_core (λ c. Steps (machine_by c lock g g' p p' r r' run) c (Some Start) (machine_by c lock Run g' Running p' r r' run)) c small ((a, b), refl) ((a, b), refl)
+module _ (c lock : ℕ) (g g' : Gate) (p p' : Phase) (r r' : Record) (run : Option ℕ)
+    (small : c < 2) where
+  pub start_step : p ≡ Resting → g ≡ AtRest
+      → Steps (machine_by c lock g g' p p' r r' run) c (Some Start)
+      (machine_by c lock Run g' Running p' r r' run)
+  start_step a b = by_core
+      (λ c. Steps (machine_by c lock g g' p p' r r' run) c (Some Start)
+      (machine_by c lock Run g' Running p' r r' run)) c small ((a, b), refl) ((a, b), refl)
 
-  pub rest_step : p ≡ Running → IsSome r.saved → g ≡ Run → Steps (machine_by c lock g g' p p' r r' run) c (Some Rest) (machine_by c lock AtRest g' Resting p' r r' run)
-  rest_step a b d = by_core (λ c. Steps (machine_by c lock g g' p p' r r' run) c (Some Rest) (machine_by c lock AtRest g' Resting p' r r' run)) c small ((a, b, d), refl) ((a, b, d), refl)
+  pub rest_step : p ≡ Running → IsSome r.saved → g ≡ Run
+      → Steps (machine_by c lock g g' p p' r r' run) c (Some Rest)
+      (machine_by c lock AtRest g' Resting p' r r' run)
+  rest_step a b d = by_core
+      (λ c. Steps (machine_by c lock g g' p p' r r' run) c (Some Rest)
+      (machine_by c lock AtRest g' Resting p' r r' run)) c small ((a, b, d), refl) ((a, b, d), refl)
 
-  pub park_step : p ≡ Running → IsSome r.saved → g ≡ Asked → Steps (machine_by c lock g g' p p' r r' run) c (Some Park) (machine_by c lock AtParked g' Parked p' r r' run)
-  park_step a b d = by_core (λ c. Steps (machine_by c lock g g' p p' r r' run) c (Some Park) (machine_by c lock AtParked g' Parked p' r r' run)) c small ((a, b, d), refl) ((a, b, d), refl)
+  pub park_step : p ≡ Running → IsSome r.saved → g ≡ Asked
+      → Steps (machine_by c lock g g' p p' r r' run) c (Some Park)
+      (machine_by c lock AtParked g' Parked p' r r' run)
+  park_step a b d = by_core
+      (λ c. Steps (machine_by c lock g g' p p' r r' run) c (Some Park)
+      (machine_by c lock AtParked g' Parked p' r r' run)) c small ((a, b, d), refl)
+      ((a, b, d), refl)
 
-  pub leave_step : p ≡ Parked → g ≡ Freed → Steps (machine_by c lock g g' p p' r r' run) c (Some Leave) (machine_by c lock Run g' Running p' r r' run)
-  leave_step a b = by_core (λ c. Steps (machine_by c lock g g' p p' r r' run) c (Some Leave) (machine_by c lock Run g' Running p' r r' run)) c small ((a, b), refl) ((a, b), refl)
+  pub leave_step : p ≡ Parked → g ≡ Freed
+      → Steps (machine_by c lock g g' p p' r r' run) c (Some Leave)
+      (machine_by c lock Run g' Running p' r r' run)
+  leave_step a b = by_core
+      (λ c. Steps (machine_by c lock g g' p p' r r' run) c (Some Leave)
+      (machine_by c lock Run g' Running p' r r' run)) c small ((a, b), refl) ((a, b), refl)
 
-  pub take_step : p ≡ Running → lock ≡ 0 → Steps (machine_by c lock g g' p p' r r' run) c (Some Take) (machine_by c (c + 1) g g' Owning p' r r' run)
-  take_step a b = by_core (λ c. Steps (machine_by c lock g g' p p' r r' run) c (Some Take) (machine_by c (c + 1) g g' Owning p' r r' run)) c small ((a, b), refl) ((a, b), refl)
+  pub take_step : p ≡ Running → lock ≡ 0
+      → Steps (machine_by c lock g g' p p' r r' run) c (Some Take)
+      (machine_by c (c + 1) g g' Owning p' r r' run)
+  take_step a b = by_core
+      (λ c. Steps (machine_by c lock g g' p p' r r' run) c (Some Take)
+      (machine_by c (c + 1) g g' Owning p' r r' run)) c small ((a, b), refl) ((a, b), refl)
 
-  pub give_step : p ≡ Owning → IsNone r.saved → lock ≡ c + 1 → Steps (machine_by c lock g g' p p' r r' run) c (Some Give) (machine_by c 0 g g' Running p' r r' run)
-  give_step a b = by_core (λ c. lock ≡ c + 1 → Steps (machine_by c lock g g' p p' r r' run) c (Some Give) (machine_by c 0 g g' Running p' r r' run)) c small (λ d. ((a, b, d), refl)) (λ d. ((a, b, d), refl))
+  pub give_step : p ≡ Owning → IsNone r.saved → lock ≡ c + 1
+      → Steps (machine_by c lock g g' p p' r r' run) c (Some Give)
+      (machine_by c 0 g g' Running p' r r' run)
+  give_step a b = by_core
+      (λ c. lock ≡ c + 1 → Steps (machine_by c lock g g' p p' r r' run) c (Some Give)
+      (machine_by c 0 g g' Running p' r r' run)) c small (λ d. ((a, b, d), refl))
+      (λ d. ((a, b, d), refl))
 
-  pub ask_step : p ≡ Owning → IsSome r.saved → g' ≡ Run → Steps (machine_by c lock g g' p p' r r' run) c (Some Ask) (machine_by c lock g Asked Asking p' r r' run)
-  ask_step a b d = by_core (λ c. Steps (machine_by c lock g g' p p' r r' run) c (Some Ask) (machine_by c lock g Asked Asking p' r r' run)) c small ((a, b, d), refl) ((a, b, d), refl)
+  pub ask_step : p ≡ Owning → IsSome r.saved → g' ≡ Run
+      → Steps (machine_by c lock g g' p p' r r' run) c (Some Ask)
+      (machine_by c lock g Asked Asking p' r r' run)
+  ask_step a b d = by_core
+      (λ c. Steps (machine_by c lock g g' p p' r r' run) c (Some Ask)
+      (machine_by c lock g Asked Asking p' r r' run)) c small ((a, b, d), refl) ((a, b, d), refl)
 
-  pub hold_step : p ≡ Owning → IsSome r.saved → g' ≡ AtRest → Steps (machine_by c lock g g' p p' r r' run) c (Some Hold) (machine_by c lock g Held Quiet p' r r' run)
-  hold_step a b d = by_core (λ c. Steps (machine_by c lock g g' p p' r r' run) c (Some Hold) (machine_by c lock g Held Quiet p' r r' run)) c small ((a, b, d), refl) ((a, b, d), refl)
+  pub hold_step : p ≡ Owning → IsSome r.saved → g' ≡ AtRest
+      → Steps (machine_by c lock g g' p p' r r' run) c (Some Hold)
+      (machine_by c lock g Held Quiet p' r r' run)
+  hold_step a b d = by_core
+      (λ c. Steps (machine_by c lock g g' p p' r r' run) c (Some Hold)
+      (machine_by c lock g Held Quiet p' r r' run)) c small ((a, b, d), refl) ((a, b, d), refl)
 
-  pub see_step : p ≡ Asking → g' ≡ AtParked → Steps (machine_by c lock g g' p p' r r' run) c (Some See) (machine_by c lock g g' Quiet p' r r' run)
-  see_step a b = by_core (λ c. Steps (machine_by c lock g g' p p' r r' run) c (Some See) (machine_by c lock g g' Quiet p' r r' run)) c small ((a, b), refl) ((a, b), refl)
+  pub see_step : p ≡ Asking → g' ≡ AtParked
+      → Steps (machine_by c lock g g' p p' r r' run) c (Some See)
+      (machine_by c lock g g' Quiet p' r r' run)
+  see_step a b = by_core
+      (λ c. Steps (machine_by c lock g g' p p' r r' run) c (Some See)
+      (machine_by c lock g g' Quiet p' r r' run)) c small ((a, b), refl) ((a, b), refl)
 
-  pub end_step : p ≡ Quiet → run ≢ Some c → KeepsAway g' → Steps (machine_by c lock g g' p p' r r' run) c (Some End) (machine_by c lock g (let_go g') Owning p' r r' run)
-  end_step a b d = by_core (λ c. run ≢ Some c → Steps (machine_by c lock g g' p p' r r' run) c (Some End) (machine_by c lock g (let_go g') Owning p' r r' run)) c small (λ b. ((a, b, d), refl)) (λ b. ((a, b, d), refl)) b
+  pub end_step : p ≡ Quiet → run ≢ Some c → KeepsAway g'
+      → Steps (machine_by c lock g g' p p' r r' run) c (Some End)
+      (machine_by c lock g (let_go g') Owning p' r r' run)
+  end_step a b d = by_core
+      (λ c. run ≢ Some c → Steps (machine_by c lock g g' p p' r r' run) c (Some End)
+      (machine_by c lock g (let_go g') Owning p' r r' run)) c small (λ b. ((a, b, d), refl))
+      (λ b. ((a, b, d), refl)) b
 
-  pub no_step : Steps (machine_by c lock g g' p p' r r' run) c None (machine_by c lock g g' p p' r r' run)
+  pub no_step : Steps (machine_by c lock g g' p p' r r' run) c None
+      (machine_by c lock g g' p p' r r' run)
   no_step = refl
 
-  pub save_step : IsAwake p → IsNone r.saved → Steps (machine_by c lock g g' p p' r r' run) c (Some Save) (machine_by c lock g g' p p' (saved_and_masked r) r' run)
-  save_step a b = by_core (λ c. Steps (machine_by c lock g g' p p' r r' run) c (Some Save) (machine_by c lock g g' p p' (saved_and_masked r) r' run)) c small ((a, b), refl) ((a, b), refl)
+  pub save_step : IsAwake p → IsNone r.saved
+      → Steps (machine_by c lock g g' p p' r r' run) c (Some Save)
+      (machine_by c lock g g' p p' (saved_and_masked r) r' run)
+  save_step a b = by_core
+      (λ c. Steps (machine_by c lock g g' p p' r r' run) c (Some Save)
+      (machine_by c lock g g' p p' (saved_and_masked r) r' run)) c small ((a, b), refl)
+      ((a, b), refl)
 
-  pub back_step : IsAwake p → IsSome r.saved → Steps (machine_by c lock g g' p p' r r' run) c (Some Back) (machine_by c lock g g' p p' (restored r) r' run)
-  back_step a b = by_core (λ c. Steps (machine_by c lock g g' p p' r r' run) c (Some Back) (machine_by c lock g g' p p' (restored r) r' run)) c small ((a, b), refl) ((a, b), refl)
+  pub back_step : IsAwake p → IsSome r.saved
+      → Steps (machine_by c lock g g' p p' r r' run) c (Some Back)
+      (machine_by c lock g g' p p' (restored r) r' run)
+  back_step a b = by_core
+      (λ c. Steps (machine_by c lock g g' p p' r r' run) c (Some Back)
+      (machine_by c lock g g' p p' (restored r) r' run)) c small ((a, b), refl) ((a, b), refl)
 
-  pub set_step : (wanted : Regs) → p ≡ Running → IsNone r.saved → wanted.mask ≤ 3 → Steps (machine_by c lock g g' p p' r r' run) c (Some (Set wanted)) (machine_by c lock g g' p p' (record r { regs = wanted }) r' run)
-  set_step wanted a b d = by_core (λ c. Steps (machine_by c lock g g' p p' r r' run) c (Some (Set wanted)) (machine_by c lock g g' p p' (record r { regs = wanted }) r' run)) c small ((a, b, d), refl) ((a, b, d), refl)
+  pub set_step : (wanted : Regs) → p ≡ Running → IsNone r.saved → wanted.mask ≤ 3
+      → Steps (machine_by c lock g g' p p' r r' run) c (Some (Set wanted))
+      (machine_by c lock g g' p p' (record r { regs = wanted }) r' run)
+  set_step wanted a b d =
+      by_core (λ c. Steps (machine_by c lock g g' p p' r r' run) c (Some (Set wanted))
+      (machine_by c lock g g' p p' (record r { regs = wanted }) r' run)) c small ((a, b, d), refl)
+      ((a, b, d), refl)
 
-  pub fetch_step : (space : _) → p ≡ Running → IsBitSet r.regs.mask (bit_of space) → Steps (machine_by c lock g g' p p' r r' run) c (Some (Fetch space)) (machine_by c lock g g' p p' r r' run)
-  fetch_step space a b = by_core (λ c. Steps (machine_by c lock g g' p p' r r' run) c (Some (Fetch space)) (machine_by c lock g g' p p' r r' run)) c small ((a, b), refl) ((a, b), refl)
+  pub fetch_step : (space : _) → p ≡ Running → IsBitSet r.regs.mask (bit_of space)
+      → Steps (machine_by c lock g g' p p' r r' run) c (Some (Fetch space))
+      (machine_by c lock g g' p p' r r' run)
+  fetch_step space a b =
+      by_core (λ c. Steps (machine_by c lock g g' p p' r r' run) c (Some (Fetch space))
+      (machine_by c lock g g' p p' r r' run)) c small ((a, b), refl) ((a, b), refl)
 
-  pub begin_step : p ≡ Quiet → run ≢ Some c → Steps (machine_by c lock g g' p p' r r' run) c (Some Begin) (machine_by c lock g g' p p' r r' (Some c))
-  begin_step a b = by_core (λ c. run ≢ Some c → Steps (machine_by c lock g g' p p' r r' run) c (Some Begin) (machine_by c lock g g' p p' r r' (Some c))) c small (λ b. ((a, b), refl)) (λ b. ((a, b), refl)) b
+  pub begin_step : p ≡ Quiet → run ≢ Some c
+      → Steps (machine_by c lock g g' p p' r r' run) c (Some Begin)
+      (machine_by c lock g g' p p' r r' (Some c))
+  begin_step a b = by_core
+      (λ c. run ≢ Some c → Steps (machine_by c lock g g' p p' r r' run) c (Some Begin)
+      (machine_by c lock g g' p p' r r' (Some c))) c small (λ b. ((a, b), refl))
+      (λ b. ((a, b), refl)) b
 
-  pub done_step : p ≡ Quiet → run ≡ Some c → Steps (machine_by c lock g g' p p' r r' run) c (Some Done) (machine_by c lock g g' p p' r r' None)
-  done_step a b = by_core (λ c. run ≡ Some c → Steps (machine_by c lock g g' p p' r r' run) c (Some Done) (machine_by c lock g g' p p' r r' None)) c small (λ b. ((a, b), refl)) (λ b. ((a, b), refl)) b
+  pub done_step : p ≡ Quiet → run ≡ Some c
+      → Steps (machine_by c lock g g' p p' r r' run) c (Some Done)
+      (machine_by c lock g g' p p' r r' None)
+  done_step a b = by_core
+      (λ c. run ≡ Some c → Steps (machine_by c lock g g' p p' r r' run) c (Some Done)
+      (machine_by c lock g g' p p' r r' None)) c small (λ b. ((a, b), refl)) (λ b. ((a, b), refl)) b

@@ -19,7 +19,8 @@ first_of a b c d e = some-injective a c (ap (λ vs. get_elem? vs 0) e)
 second_of : {A : Type 0} (a b c d : A) → a ∷ b ∷ [] ≡ c ∷ d ∷ [] → b ≡ d
 second_of a b c d e = some-injective b d (ap (λ vs. get_elem? vs 1) e)
 
-pub one_safe_machine : {S B D : Type 0} (records : S → ℕ → Record) (runs : S → Option ℕ) (stands : S → B → List D → List D → Type 0) → StandForOneSafeMachine records runs stands
+pub one_safe_machine : {S B D : Type 0} (records : S → ℕ → Record) (runs : S → Option ℕ)
+    (stands : S → B → List D → List D → Type 0) → StandForOneSafeMachine records runs stands
 one_safe_machine records runs stands = λ s p q.
     let words = sym p.words ∙ q.words in
     let views = sym p.views ∙ q.views in
@@ -28,7 +29,15 @@ one_safe_machine records runs stands = λ s p q.
     let gate' = same_gate p.gate' q.gate' (ap (λ ws. slice_index ws 3) words) in
     let left = first_of p.left p.right q.left q.right views in
     let right = second_of p.left p.right q.left q.right views in
-    let run = one_run q.left.steps q.right.steps (subst (λ (z : Bool × Bool). RunIs p.run 0 1 z.0 z.1) (λ k. ((left k).steps, (right k).steps)) p.pairing.step) q.pairing.step in (
-      record { two_cores = record { gates = refl; phases = refl; records = refl }; zero_safe = p.pairing.safe; one_safe = p.pairing.safe' },
-      λ k. machine_of (lock k) (gate k) (gate' k) (left k).phase (right k).phase (left k).registers (right k).registers (run k),
+    let run = one_run q.left.steps q.right.steps
+    (subst (λ (z : Bool × Bool). RunIs p.run 0 1 z.0 z.1)
+    (λ k. ((left k).steps, (right k).steps)) p.pairing.step) q.pairing.step in (
+      record {
+        two_cores = record { gates = refl; phases = refl; records = refl };
+        zero_safe =
+            p.pairing.safe;
+        one_safe = p.pairing.safe';
+      },
+      λ k. machine_of (lock k) (gate k) (gate' k) (left k).phase (right k).phase (left k).registers
+          (right k).registers (run k),
     )

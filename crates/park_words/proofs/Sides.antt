@@ -20,13 +20,15 @@ machine_by zero lock g g' p p' r r' run = machine_of lock g g' p p' r r' run
 machine_by (suc c) lock g g' p p' r r' run = machine_of lock g' g p' p r' r run
 
 -- what is written at a seat is read there
-pub set_at : {A : Type 0} (l : List A) (i : ℕ) (a b : A) → get_elem? l i ≡ some a → get_elem? (slice_set l i b) i ≡ some b
+pub set_at : {A : Type 0} (l : List A) (i : ℕ) (a b : A) → get_elem? l i ≡ some a
+    → get_elem? (slice_set l i b) i ≡ some b
 set_at [] i a b e = absurd (some-ne-none a (sym e))
 set_at (x ∷ xs) zero a b e = refl
 set_at (x ∷ xs) (suc i) a b e = set_at xs i a b e
 
 -- to write what is there changes nothing
-pub set_same : {A : Type 0} (l : List A) (i : ℕ) (a : A) → get_elem? l i ≡ some a → slice_set l i a ≡ l
+pub set_same : {A : Type 0} (l : List A) (i : ℕ) (a : A) → get_elem? l i ≡ some a
+    → slice_set l i a ≡ l
 set_same [] i a e = refl
 set_same (x ∷ xs) zero a e = ap (λ y. y ∷ xs) (sym (some-injective x a e))
 set_same (x ∷ xs) (suc i) a e = ap (λ ys. x ∷ ys) (set_same xs i a e)
@@ -54,7 +56,9 @@ module _
     Homes = List (maybe.Option (Option S))
 
     -- as core 0 sees it, so core 1 does
-    pub back : {lock turn : ℕ} {gate gate' : Gate} {run : Option ℕ} {homes : Homes} {v w : View B D} → Pairing records runs stands 0 1 lock turn gate gate' run homes v w → Pairing records runs stands 1 0 lock turn gate' gate run homes w v
+    pub back : {lock turn : ℕ} {gate gate' : Gate} {run : Option ℕ} {homes : Homes} {v w : View B D}
+        → Pairing records runs stands 0 1 lock turn gate gate' run homes v w
+        → Pairing records runs stands 1 0 lock turn gate' gate run homes w v
     back {v = v} {w = w} p = record {
       cores = (p.cores.1, p.cores.0);
       stages = (p.stages.1, p.stages.0);
@@ -69,7 +73,8 @@ module _
         own = h.other;
         other = h.own;
         step = h.step;
-        stands_by = subst (λ (b : Option B). StandsFor stands h.value b v.share w.share) p.bases h.stands_by;
+        stands_by = subst (λ (b : Option B). StandsFor stands h.value b v.share w.share) p.bases
+            h.stands_by;
       };
       safe = p.safe';
       safe' = p.safe;
@@ -78,7 +83,9 @@ module _
     }
 
     -- as core 1 sees it, so core 0 does
-    pub fore : {lock turn : ℕ} {gate gate' : Gate} {run : Option ℕ} {homes : Homes} {v w : View B D} → Pairing records runs stands 1 0 lock turn gate gate' run homes v w → Pairing records runs stands 0 1 lock turn gate' gate run homes w v
+    pub fore : {lock turn : ℕ} {gate gate' : Gate} {run : Option ℕ} {homes : Homes} {v w : View B D}
+        → Pairing records runs stands 1 0 lock turn gate gate' run homes v w
+        → Pairing records runs stands 0 1 lock turn gate' gate run homes w v
     fore {v = v} {w = w} p = record {
       cores = (p.cores.1, p.cores.0);
       stages = (p.stages.1, p.stages.0);
@@ -93,7 +100,8 @@ module _
         own = h.other;
         other = h.own;
         step = h.step;
-        stands_by = subst (λ (b : Option B). StandsFor stands h.value b w.share v.share) p.bases h.stands_by;
+        stands_by = subst (λ (b : Option B). StandsFor stands h.value b w.share v.share) p.bases
+            h.stands_by;
       };
       safe = p.safe';
       safe' = p.safe;
@@ -102,8 +110,10 @@ module _
     }
 
     -- the state after one word became n, the slot these homes, and the seat's view v
-    abbrev pub after : State (Option S) (View B D) → ℕ → ℕ → ℕ → List (maybe.Option (Option S)) → View B D → State (Option S) (View B D)
-    after s id i n homes v = record { words = slice_set s.words i n; homes = homes; views = slice_set s.views id v }
+    abbrev pub after : State (Option S) (View B D) → ℕ → ℕ → ℕ → List (maybe.Option (Option S))
+        → View B D → State (Option S) (View B D)
+    after s id i n homes v =
+        record { words = slice_set s.words i n; homes = homes; views = slice_set s.views id v }
 
     -- the state has two views and stands for this machine
     abbrev pub Built : State (Option S) (View B D) → Machine → Type 0
@@ -122,19 +132,28 @@ module _
       pub run : Option ℕ
       pub w : View B D
       pub pairing : Pairing records runs stands c o lock turn gate gate' run s.homes v w
-      pub machine_is : machine records runs stands s paired ≡ machine_by c lock gate gate' v.phase w.phase v.registers w.registers run
+      pub machine_is : machine records runs stands s paired
+          ≡ machine_by c lock gate gate' v.phase w.phase v.registers w.registers run
       pub lock_is : slice_index s.words 0 ≡ lock
       pub turn_is : slice_index s.words 1 ≡ turn
       pub gate_is : slice_index s.words (c + 2) ≡ gate_word gate
       pub gate_is' : slice_index s.words (o + 2) ≡ gate_word gate'
-      pub with_lock : (n : ℕ) (v' : View B D) → Pairing records runs stands c o n turn gate gate' run s.homes v' w
-          → Built (after s id 0 n s.homes v') (machine_by c n gate gate' v'.phase w.phase v'.registers w.registers run)
-      pub with_turn : (n : ℕ) (run' : Option ℕ) (homes : List (maybe.Option (Option S))) (v' : View B D) → Pairing records runs stands c o lock n gate gate' run' homes v' w
-          → Built (after s id 1 n homes v') (machine_by c lock gate gate' v'.phase w.phase v'.registers w.registers run')
-      pub with_gate : (g : Gate) (v' : View B D) → Pairing records runs stands c o lock turn g gate' run s.homes v' w
-          → Built (after s id (c + 2) (gate_word g) s.homes v') (machine_by c lock g gate' v'.phase w.phase v'.registers w.registers run)
-      pub with_gate' : (g : Gate) (v' : View B D) → Pairing records runs stands c o lock turn gate g run s.homes v' w
-          → Built (after s id (o + 2) (gate_word g) s.homes v') (machine_by c lock gate g v'.phase w.phase v'.registers w.registers run)
+      pub with_lock : (n : ℕ) (v' : View B D)
+          → Pairing records runs stands c o n turn gate gate' run s.homes v' w
+          → Built (after s id 0 n s.homes v')
+          (machine_by c n gate gate' v'.phase w.phase v'.registers w.registers run)
+      pub with_turn : (n : ℕ) (run' : Option ℕ) (homes : List (maybe.Option (Option S)))
+          (v' : View B D) → Pairing records runs stands c o lock n gate gate' run' homes v' w
+          → Built (after s id 1 n homes v')
+          (machine_by c lock gate gate' v'.phase w.phase v'.registers w.registers run')
+      pub with_gate : (g : Gate) (v' : View B D)
+          → Pairing records runs stands c o lock turn g gate' run s.homes v' w
+          → Built (after s id (c + 2) (gate_word g) s.homes v')
+          (machine_by c lock g gate' v'.phase w.phase v'.registers w.registers run)
+      pub with_gate' : (g : Gate) (v' : View B D)
+          → Pairing records runs stands c o lock turn gate g run s.homes v' w
+          → Built (after s id (o + 2) (gate_word g) s.homes v')
+          (machine_by c lock gate g v'.phase w.phase v'.registers w.registers run)
 
     -- the state as the seat of core 0 sees it
     left_side : (s : St) (p : Paired records runs stands s) → Side s 0 p.left
@@ -299,21 +318,27 @@ module _
     }
 
     -- the one of two views at a seat
-    of_two : (s : St) (id : ℕ) (v : View B D) (p : Paired records runs stands s) → get_elem? (p.left ∷ p.right ∷ []) id ≡ some v → Side s id v
+    of_two : (s : St) (id : ℕ) (v : View B D) (p : Paired records runs stands s)
+        → get_elem? (p.left ∷ p.right ∷ []) id ≡ some v → Side s id v
     of_two s zero v p e = subst (λ x. Side s 0 x) (some-injective p.left v e) (left_side s p)
-    of_two s (suc zero) v p e = subst (λ x. Side s 1 x) (some-injective p.right v e) (right_side s p)
+    of_two s (suc zero) v p e =
+        subst (λ x. Side s 1 x) (some-injective p.right v e) (right_side s p)
     of_two s (suc (suc id)) v p e = absurd (some-ne-none v (sym e))
 
     -- a state with two views, as the core sees it whose seat this is
-    pub side_of : (s : State (Option S) (View B D)) (id : ℕ) (v : View B D) → Paired records runs stands s → get_elem? s.views id ≡ some v → Side s id v
+    pub side_of : (s : State (Option S) (View B D)) (id : ℕ) (v : View B D)
+        → Paired records runs stands s → get_elem? s.views id ≡ some v → Side s id v
     side_of s id v p at = of_two s id v p (subst (λ xs. get_elem? xs id ≡ some v) p.views at)
 
     -- no seat of one view or of two ended ones has the stage of one core
-    not_of_one : (u : View B D) (id : ℕ) (v : View B D) → u.stage ≡ New → v.stage ≡ One → get_elem? (u ∷ []) id ≡ some v → ⊥
-    not_of_one u zero v new one e = let bad : New ≡ One = sym new ∙ (ap (λ x. x.stage) (some-injective u v e) ∙ one) in cc bad
+    not_of_one : (u : View B D) (id : ℕ) (v : View B D) → u.stage ≡ New → v.stage ≡ One
+        → get_elem? (u ∷ []) id ≡ some v → ⊥
+    not_of_one u zero v new one e = let bad : New ≡ One = sym new
+        ∙ (ap (λ x. x.stage) (some-injective u v e) ∙ one) in cc bad
     not_of_one u (suc id) v new one e = some-ne-none v (sym e)
 
-    neither : (a b : View B D) (id : ℕ) (v : View B D) → (a.stage ≡ One → ⊥) → (b.stage ≡ One → ⊥) → v.stage ≡ One → get_elem? (a ∷ b ∷ []) id ≡ some v → ⊥
+    neither : (a b : View B D) (id : ℕ) (v : View B D) → (a.stage ≡ One → ⊥) → (b.stage ≡ One → ⊥)
+        → v.stage ≡ One → get_elem? (a ∷ b ∷ []) id ≡ some v → ⊥
     neither a b zero v not not' one e = not (ap (λ x. x.stage) (some-injective a v e) ∙ one)
     neither a b (suc zero) v not not' one e = not' (ap (λ x. x.stage) (some-injective b v e) ∙ one)
     neither a b (suc (suc id)) v not not' one e = some-ne-none v (sym e)
@@ -324,15 +349,22 @@ module _
     spent_is_not_one : Spent ≡ One → ⊥
     spent_is_not_one e = cc e
 
-    at_views : (s : St) (id : ℕ) (v : View B D) (vs : List (View B D)) → s.views ≡ vs → get_elem? s.views id ≡ some v → get_elem? vs id ≡ some v
+    at_views : (s : St) (id : ℕ) (v : View B D) (vs : List (View B D)) → s.views ≡ vs
+        → get_elem? s.views id ≡ some v → get_elem? vs id ≡ some v
     at_views s id v vs e at = subst (λ xs. get_elem? xs id ≡ some v) e at
 
     -- a state that meets the rule, as the core sees it whose seat this is
-    pub side : (key : S) (s : State (Option S) (View B D)) (id : ℕ) (v : View B D) → Ruled records runs stands key s → v.stage ≡ One → get_elem? s.views id ≡ some v → Side s id v
-    side key s id v (inl f) one at = absurd (not_of_one fresh id v refl one (at_views s id v _ f.views at))
+    pub side : (key : S) (s : State (Option S) (View B D)) (id : ℕ) (v : View B D)
+        → Ruled records runs stands key s → v.stage ≡ One → get_elem? s.views id ≡ some v
+        → Side s id v
+    side key s id v (inl f) one at =
+        absurd (not_of_one fresh id v refl one (at_views s id v _ f.views at))
     side key s id v (inr (inl p)) one at = side_of s id v p at
     side key s id v (inr (inr j)) one at = absurd (ended j.cores)
       where
-        ended : ((j.c ≡ 0) × (j.o ≡ 1) × (s.views ≡ j.both ∷ spent ∷ [])) ⊎ ((j.c ≡ 1) × (j.o ≡ 0) × (s.views ≡ spent ∷ j.both ∷ [])) → ⊥
-        ended (inl e) = neither j.both spent id v (both_is_not_one j.both.stage j.stage.0) spent_is_not_one one (at_views s id v _ e.2 at)
-        ended (inr e) = neither spent j.both id v spent_is_not_one (both_is_not_one j.both.stage j.stage.0) one (at_views s id v _ e.2 at)
+        ended : ((j.c ≡ 0) × (j.o ≡ 1) × (s.views ≡ j.both ∷ spent ∷ []))
+            ⊎ ((j.c ≡ 1) × (j.o ≡ 0) × (s.views ≡ spent ∷ j.both ∷ [])) → ⊥
+        ended (inl e) = neither j.both spent id v
+            (both_is_not_one j.both.stage j.stage.0) spent_is_not_one one (at_views s id v _ e.2 at)
+        ended (inr e) = neither spent j.both id v spent_is_not_one
+            (both_is_not_one j.both.stage j.stage.0) one (at_views s id v _ e.2 at)

@@ -34,7 +34,8 @@ pub other_is : {c o : ℕ} → ((c ≡ 0) × (o ≡ 1)) ⊎ ((c ≡ 1) × (o ≡
 other_is (inl e) = ap other e.0 ∙ sym e.1
 other_is (inr e) = ap other e.0 ∙ sym e.1
 
-module _ {c o lock : ℕ} {gate gate' : Gate} {phase phase' : Phase} {registers registers' : Record} {run : Option ℕ}
+module _ {c o lock : ℕ} {gate gate' : Gate} {phase phase' : Phase} {registers registers' : Record}
+    {run : Option ℕ}
     (apart : c + o ≡ 1)
     (mine : SafeAt c lock gate phase phase' registers run)
     (theirs : SafeAt o lock gate' phase' phase registers' run)
@@ -48,7 +49,9 @@ module _ {c o lock : ℕ} {gate gate' : Gate} {phase phase' : Phase} {registers 
     quiet_alone is = grind arith
 
 -- the step of a core is told by the running step
-step_by : (c o : ℕ) → c + o ≡ 1 → (run : Option ℕ) (theirs : Bool) → ((run ≡ None) ⊎ (run ≡ Some 0) ⊎ (run ≡ Some 1)) → (theirs ≡ true → run ≡ Some o) → (theirs ≡ false → run ≢ Some o) → RunIs run c o (is_step_of c run) theirs
+step_by : (c o : ℕ) → c + o ≡ 1 → (run : Option ℕ) (theirs : Bool)
+    → ((run ≡ None) ⊎ (run ≡ Some 0) ⊎ (run ≡ Some 1)) → (theirs ≡ true → run ≡ Some o)
+    → (theirs ≡ false → run ≢ Some o) → RunIs run c o (is_step_of c run) theirs
 step_by c o apart None theirs is on off = record {
   own = λ bad. absurd (cc bad);
   other = on;
@@ -69,27 +72,36 @@ step_by c o apart (Some d) theirs is on off = record {
     one (inr (inr e)) ne = let f : d ≡ 1 = cc e in ap Some (last (omega arith) ne)
 
 -- where neither view is the other core's step, the running step is not the other core's
-not_theirs : {run : Option ℕ} {c o : ℕ} (mine theirs : Bool) → c + o ≡ 1 → RunIs run c o mine theirs → theirs ≡ false → run ≢ Some o
+not_theirs : {run : Option ℕ} {c o : ℕ} (mine theirs : Bool) → c + o ≡ 1 → RunIs run c o mine theirs
+    → theirs ≡ false → run ≢ Some o
 not_theirs mine true apart r off e = let bad : true ≡ false = off in cc bad
-not_theirs {run} {c} {o} true false apart r off e = let same : Some c ≡ Some o = sym (r.own refl) ∙ e in let bad : c ≡ o = cc same in omega arith
-not_theirs {run} {c} {o} false false apart r off e = let bad : None ≡ Some o = sym (r.none refl refl) ∙ e in cc bad
+not_theirs {run} {c} {o} true false apart r off e = let same : Some c ≡ Some o = sym (r.own refl)
+    ∙ e in let bad : c ≡ o = cc same in omega arith
+not_theirs {run} {c} {o} false false apart r off e = let bad : None ≡ Some o =
+    sym (r.none refl refl) ∙ e in cc bad
 
 -- the running step is the core's own exactly where its view says so
-own_step : {run : Option ℕ} {c o : ℕ} (mine theirs : Bool) → c + o ≡ 1 → RunIs run c o mine theirs → run ≡ Some c → mine ≡ true
+own_step : {run : Option ℕ} {c o : ℕ} (mine theirs : Bool) → c + o ≡ 1 → RunIs run c o mine theirs
+    → run ≡ Some c → mine ≡ true
 own_step true theirs apart r e = refl
-own_step {run} {c} {o} false true apart r e = let same : Some o ≡ Some c = sym (r.other refl) ∙ e in let bad : o ≡ c = cc same in absurd (omega arith)
-own_step {run} {c} {o} false false apart r e = let bad : None ≡ Some c = sym (r.none refl refl) ∙ e in absurd (cc bad)
+own_step {run} {c} {o} false true apart r e = let same : Some o ≡ Some c = sym (r.other refl)
+    ∙ e in let bad : o ≡ c = cc same in absurd (omega arith)
+own_step {run} {c} {o} false false apart r e = let bad : None ≡ Some c = sym (r.none refl refl)
+    ∙ e in absurd (cc bad)
 
 -- what is done to the value leaves, for the machine and for both cores
 record Leaves
-    (c o lock : ℕ) (gate gate' : Gate) (phase phase' : Phase) (registers registers' : Record) (run : Option ℕ)
+    (c o lock : ℕ) (gate gate' : Gate) (phase phase' : Phase) (registers registers' : Record)
+    (run : Option ℕ)
     (kind : Option Kind) (theirs_steps : Bool) (r : Record) (run' : Option ℕ) : Type 0 where
   pub safe : SafeAt c lock gate phase phase' r run'
   pub safe' : SafeAt o lock gate' phase' phase registers' run'
   pub runs_by : RunIs run' c o (is_step_of c run') theirs_steps
-  pub made : Steps (machine_by c lock gate gate' phase phase' registers registers' run) c kind (machine_by c lock gate gate' phase phase' r registers' run')
+  pub made : Steps (machine_by c lock gate gate' phase phase' registers registers' run) c kind
+      (machine_by c lock gate gate' phase phase' r registers' run')
 
-module _ {B D : Type 0} (v : View B D) (c o lock : ℕ) (gate gate' : Gate) (phase' : Phase) (registers' : Record) (run : Option ℕ) (theirs_steps : Bool)
+module _ {B D : Type 0} (v : View B D) (c o lock : ℕ) (gate gate' : Gate) (phase' : Phase)
+    (registers' : Record) (run : Option ℕ) (theirs_steps : Bool)
     (small : c < 2) (apart : c + o ≡ 1)
     (mine : SafeAt c lock gate v.phase phase' v.registers run)
     (theirs : SafeAt o lock gate' phase' v.phase registers' run)
@@ -97,59 +109,78 @@ module _ {B D : Type 0} (v : View B D) (c o lock : ℕ) (gate gate' : Gate) (pha
     (core : v.core ≡ c) (running : v.running ≡ run)
   where
     abbrev Left : Option Kind → Record → Option ℕ → Type 0
-    Left kind r run' = Leaves c o lock gate gate' v.phase phase' v.registers registers' run kind theirs_steps r run'
+    Left kind r run' = Leaves c o lock gate gate' v.phase phase' v.registers registers' run kind
+        theirs_steps r run'
 
     -- the running step as it was
     same_step : RunIs run c o (is_step_of c run) theirs_steps
-    same_step = step_by c o apart run theirs_steps mine.step_fits.of_a_core step_is.other (not_theirs v.steps theirs_steps apart step_is)
+    same_step = step_by c o apart run theirs_steps mine.step_fits.of_a_core step_is.other
+        (not_theirs v.steps theirs_steps apart step_is)
 
     -- another running step, where the core is quiet
-    quiet_step : (run' : Option ℕ) → v.phase ≡ Quiet → ((run' ≡ None) ⊎ (run' ≡ Some 0) ⊎ (run' ≡ Some 1)) → run' ≢ Some o → RunIs run' c o (is_step_of c run') theirs_steps
-    quiet_step run' quiet is not_other = step_by c o apart run' theirs_steps is (λ on. absurd (quiet_alone apart mine theirs quiet (step_is.other on))) (λ _. not_other)
+    quiet_step : (run' : Option ℕ) → v.phase ≡ Quiet
+        → ((run' ≡ None) ⊎ (run' ≡ Some 0) ⊎ (run' ≡ Some 1)) → run' ≢ Some o
+        → RunIs run' c o (is_step_of c run') theirs_steps
+    quiet_step run' quiet is not_other =
+        step_by c o apart run' theirs_steps is
+        (λ on. absurd (quiet_alone apart mine theirs quiet (step_is.other on))) (λ _. not_other)
 
-    at : (kind : Option Kind) (r0 r : Record) (run0 run' : Option ℕ) → r ≡ r0 → run' ≡ run0 → Left kind r0 run0 → Left kind r run'
-    at kind r0 r run0 run' e f = subst (λ (z : Record × Option ℕ). Left kind z.0 z.1) (λ k. (sym e k, sym f k))
+    at : (kind : Option Kind) (r0 r : Record) (run0 run' : Option ℕ) → r ≡ r0 → run' ≡ run0
+        → Left kind r0 run0 → Left kind r run'
+    at kind r0 r run0 run' e f =
+        subst (λ (z : Record × Option ℕ). Left kind z.0 z.1) (λ k. (sym e k, sym f k))
 
     mine_of : v.running ≢ Some v.core → run ≢ Some c
     mine_of ne e = ne (running ∙ (e ∙ ap Some (sym core)))
 
-    done : (kind : Option Kind) (r : Record) (run' : Option ℕ) → Does kind v r run' → Left kind r run'
+    done : (kind : Option Kind) (r : Record) (run' : Option ℕ) → Does kind v r run'
+        → Left kind r run'
     done None r run' d = at None v.registers r run run' d.0 (d.1 ∙ running) (record {
       safe = mine;
       safe' = theirs;
       runs_by = same_step;
       made = no_step c lock gate gate' v.phase phase' v.registers registers' run small;
     })
-    done (Some Save) r run' d = at (Some Save) (saved_and_masked v.registers) r run run' d.2 (d.3 ∙ running) (record {
-      safe = own.save-own apart mine theirs d.0 d.1;
-      safe' = theirs;
-      runs_by = same_step;
-      made = save_step c lock gate gate' v.phase phase' v.registers registers' run small d.0 d.1;
-    })
-    done (Some Back) r run' d = at (Some Back) (restored v.registers) r run run' d.2 (d.3 ∙ running) (record {
-      safe = own.back-own apart mine theirs d.0 d.1;
-      safe' = theirs;
-      runs_by = same_step;
-      made = back_step c lock gate gate' v.phase phase' v.registers registers' run small d.0 d.1;
-    })
-    done (Some (Set wanted)) r run' d = at (Some (Set wanted)) (record v.registers { regs = wanted }) r run run' d.3 (d.4 ∙ running) (record {
-      safe = own.set-own apart mine theirs wanted d.0 d.1 d.2;
-      safe' = theirs;
-      runs_by = same_step;
-      made = set_step c lock gate gate' v.phase phase' v.registers registers' run small wanted d.0 d.1 d.2;
-    })
-    done (Some (Fetch space)) r run' d = at (Some (Fetch space)) v.registers r run run' d.2 (d.3 ∙ running) (record {
-      safe = mine;
-      safe' = theirs;
-      runs_by = same_step;
-      made = fetch_step c lock gate gate' v.phase phase' v.registers registers' run small space d.0 d.1;
-    })
-    done (Some Begin) r run' d = at (Some Begin) v.registers r (Some c) run' d.2 (d.3 ∙ ap Some core) (record {
-      safe = own.begin-own apart mine theirs d.0 (mine_of d.1);
-      safe' = beside.begin-other apart mine theirs d.0 (mine_of d.1);
-      runs_by = quiet_step (Some c) d.0 (of_two c small) (λ e. let bad : c ≡ o = cc e in omega arith);
-      made = begin_step c lock gate gate' v.phase phase' v.registers registers' run small d.0 (mine_of d.1);
-    })
+    done (Some Save) r run' d =
+        at (Some Save) (saved_and_masked v.registers) r run run' d.2 (d.3 ∙ running) (record {
+          safe = own.save-own apart mine theirs d.0 d.1;
+          safe' = theirs;
+          runs_by = same_step;
+          made = save_step c lock gate gate' v.phase phase' v.registers registers' run small d.0 d.1;
+        })
+    done (Some Back) r run' d =
+        at (Some Back) (restored v.registers) r run run' d.2 (d.3 ∙ running) (record {
+          safe = own.back-own apart mine theirs d.0 d.1;
+          safe' = theirs;
+          runs_by = same_step;
+          made = back_step c lock gate gate' v.phase phase' v.registers registers' run small d.0 d.1;
+        })
+    done (Some (Set wanted)) r run' d =
+        at (Some (Set wanted)) (record v.registers { regs = wanted }) r run run' d.3 (d.4 ∙ running)
+        (record {
+          safe = own.set-own apart mine theirs wanted d.0 d.1 d.2;
+          safe' = theirs;
+          runs_by = same_step;
+          made = set_step c lock gate gate' v.phase phase' v.registers registers' run small wanted d.0
+              d.1 d.2;
+        })
+    done (Some (Fetch space)) r run' d =
+        at (Some (Fetch space)) v.registers r run run' d.2 (d.3 ∙ running) (record {
+          safe = mine;
+          safe' = theirs;
+          runs_by = same_step;
+          made = fetch_step c lock gate gate' v.phase phase' v.registers registers' run small space d.0
+              d.1;
+        })
+    done (Some Begin) r run' d =
+        at (Some Begin) v.registers r (Some c) run' d.2 (d.3 ∙ ap Some core) (record {
+          safe = own.begin-own apart mine theirs d.0 (mine_of d.1);
+          safe' = beside.begin-other apart mine theirs d.0 (mine_of d.1);
+          runs_by = quiet_step (Some c) d.0 (of_two c small)
+              (λ e. let bad : c ≡ o = cc e in omega arith);
+          made = begin_step c lock gate gate' v.phase phase' v.registers registers' run small d.0
+              (mine_of d.1);
+        })
       where
         of_two : (c : ℕ) → c < 2 → (Some c ≡ None) ⊎ (Some c ≡ Some 0) ⊎ (Some c ≡ Some 1)
         of_two zero small = inr (inl refl)
@@ -159,7 +190,8 @@ module _ {B D : Type 0} (v : View B D) (c o lock : ℕ) (gate gate' : Gate) (pha
       safe = own.done-own apart mine theirs d.0 (sym running ∙ (d.1 ∙ ap Some core));
       safe' = beside.done-other apart mine theirs d.0 (sym running ∙ (d.1 ∙ ap Some core));
       runs_by = quiet_step None d.0 (inl refl) (λ e. absurd (cc e));
-      made = done_step c lock gate gate' v.phase phase' v.registers registers' run small d.0 (sym running ∙ (d.1 ∙ ap Some core));
+      made = done_step c lock gate gate' v.phase phase' v.registers registers' run small d.0
+          (sym running ∙ (d.1 ∙ ap Some core));
     })
     done (Some Start) r run' d = absurd d
     done (Some Rest) r run' d = absurd d
@@ -185,25 +217,35 @@ module _
   where
     -- the value at home is known to the seat that takes the turn
     knows_it : (s : State (Option S) (View B D)) (d : Side records runs stands s id me.0)
-        (h : AtHome records runs stands s.homes d.c d.o me.0.base me.0.registers d.w.registers me.0.share d.w.share d.run)
+        (h : AtHome records runs stands s.homes d.c d.o me.0.base me.0.registers d.w.registers
+        me.0.share d.w.share d.run)
         → Known records runs stands h.value (with_turn me.0 d.w.registers d.w.share d.run)
     knows_it s d h =
         let q = d.pairing in let sum = sum_one d.apart in let core = q.cores.0 in record {
           own = ap (records h.value) core ∙ h.own;
           other_is = ap (records h.value) (ap other core ∙ other_is d.apart) ∙ h.other;
           running = h.step;
-          own_step = ((λ e. own_step me.0.steps d.w.steps sum q.step (e ∙ ap Some core)), λ on. q.step.own on ∙ ap Some (sym core));
+          own_step = (
+            (λ e. own_step me.0.steps d.w.steps sum q.step (e ∙ ap Some core)),
+            λ on. q.step.own on ∙ ap Some (sym core),
+          );
           nothing_runs = out_of_quiet sum q.safe q.safe';
-          nothing_of_the_other = λ quiet e. quiet_alone sum q.safe q.safe' quiet (e ∙ ap Some (ap other core ∙ other_is d.apart));
-          stands_by = subst (λ n. StandsBy stands h.value me.0.base n me.0.share d.w.share) (sym core) h.stands_by;
+          nothing_of_the_other =
+              λ quiet e. quiet_alone sum q.safe q.safe' quiet
+              (e ∙ ap Some (ap other core ∙ other_is d.apart));
+          stands_by = subst (λ n. StandsBy stands h.value me.0.base n me.0.share d.w.share)
+              (sym core) h.stands_by;
         }
 
     -- the pairing once the core took the turn
-    turn_taken : (s : State (Option S) (View B D)) (d : Side records runs stands s id me.0) (homes : List (maybe.Option (Option S))) → d.turn ≡ 0
-        → Pairing records runs stands d.c d.o d.lock (d.c + 1) d.gate d.gate' d.run homes (with_turn me.0 d.w.registers d.w.share d.run) d.w
+    turn_taken : (s : State (Option S) (View B D)) (d : Side records runs stands s id me.0)
+        (homes : List (maybe.Option (Option S))) → d.turn ≡ 0
+        → Pairing records runs stands d.c d.o d.lock (d.c + 1) d.gate d.gate' d.run homes
+        (with_turn me.0 d.w.registers d.w.share d.run) d.w
     turn_taken s d homes free =
         let q = d.pairing in let sum = sum_one d.apart in let small : d.c < 2 = below_two d.apart in
-        let theirs : d.w.turn ≡ true → ⊥ = λ e. let at = q.turns.other.1 e in omega arith in record {
+        let theirs : d.w.turn ≡ true
+        → ⊥ = λ e. let at = q.turns.other.1 e in omega arith in record {
           cores = q.cores;
           stages = q.stages;
           bases = q.bases;
@@ -224,7 +266,8 @@ module _
 
     -- a core takes the turn
     pub takes_turn : (slots to : ℕ) → me.0.core + 1 ≡ to
-        → Allows (Ruled records runs stands key) slots id me 1 (λ n. either (eqb n 0) to n) (TellsTaken records runs stands (step slots 1 0 to none) me)
+        → Allows (Ruled records runs stands key) slots id me 1 (λ n. either (eqb n 0) to n)
+        (TellsTaken records runs stands (step slots 1 0 to none) me)
     takes_turn slots to at_to = λ s r sized at small.
         let d = side records runs stands key s id me.0 r one at in
         let n : ℕ = slice_index s.words 1 in
@@ -240,7 +283,8 @@ module _
           v',
           takes 0 (Some h.value),
           ap (λ hs. get_elem? hs 0) h.home,
-          subst (λ x. Ruled records runs stands key (after records runs stands s id 1 x homes v')) (to_is ∙ sym (hit n 0 to e)) (inr (inl b.0)),
+          subst (λ x. Ruled records runs stands key (after records runs stands s id 1 x homes v'))
+              (to_is ∙ sym (hit n 0 to e)) (inr (inl b.0)),
           (
             (λ _. (
               h.value,
@@ -267,11 +311,14 @@ module _
           me.0,
           keeps,
           tt,
-          subst (λ x. Ruled records runs stands key (after records runs stands s id 1 x s.homes me.0)) (sym (miss n 0 to ne)) (still records runs stands key s id 1 me.0 r at),
+          subst (λ x. Ruled records runs stands key
+              (after records runs stands s id 1 x s.homes me.0)) (sym (miss n 0 to ne))
+              (still records runs stands key s id 1 me.0 r at),
           ((λ e. absurd (ne e)), λ _. (refl, reads records runs stands s id 1 me.0 d at)),
         ))
       where
-        not_taken : (s : State (Option S) (View B D)) (d : Side records runs stands s id me.0) → d.turn ≡ 0 → me.0.turn ≡ false
+        not_taken : (s : State (Option S) (View B D)) (d : Side records runs stands s id me.0)
+            → d.turn ≡ 0 → me.0.turn ≡ false
         not_taken s d free = go me.0.turn (λ e. let at = d.pairing.turns.own.1 e in omega arith)
           where
             go : (b : Bool) → (b ≡ true → ⊥) → b ≡ false
@@ -279,17 +326,25 @@ module _
             go false no_turn = refl
 
     -- the pairing once the core gave the turn back, with this value at home
-    turn_given : (s : State (Option S) (View B D)) (d : Side records runs stands s id me.0) (homes : List (maybe.Option (Option S))) (x : S) (share : List D)
-        → homes ≡ some (Some x) ∷ [] → me.0.turn ≡ true → (g : Gives records runs stands me.0 x share)
-        → Leaves d.c d.o d.lock d.gate d.gate' me.0.phase d.w.phase me.0.registers d.w.registers d.run g.kind d.w.steps (records x me.0.core) (runs x)
-        → Pairing records runs stands d.c d.o d.lock 0 d.gate d.gate' (runs x) homes (without_turn me.0 (records x me.0.core) (runs x) share) d.w
+    turn_given : (s : State (Option S) (View B D)) (d : Side records runs stands s id me.0)
+        (homes : List (maybe.Option (Option S))) (x : S) (share : List D)
+        → homes ≡ some (Some x) ∷ [] → me.0.turn ≡ true
+        → (g : Gives records runs stands me.0 x share)
+        → Leaves d.c d.o d.lock d.gate d.gate' me.0.phase d.w.phase me.0.registers d.w.registers
+        d.run g.kind d.w.steps (records x me.0.core) (runs x)
+        → Pairing records runs stands d.c d.o d.lock 0 d.gate d.gate' (runs x) homes
+        (without_turn me.0 (records x me.0.core) (runs x) share) d.w
     turn_given s d homes x share is has g h =
-        let q = d.pairing in let sum = sum_one d.apart in let core = q.cores.0 in let took = q.mine has in
-        let theirs : d.w.turn ≡ true → ⊥ = λ e. let at = q.turns.other.1 e in let at' = q.turns.own.1 has in omega arith in record {
+        let q = d.pairing in let sum = sum_one d.apart in let core = q.cores.0 in let took =
+        q.mine has in
+        let theirs : d.w.turn ≡ true
+        → ⊥ = λ e. let at = q.turns.other.1 e in let at' =
+        q.turns.own.1 has in omega arith in record {
           cores = q.cores;
           stages = q.stages;
           bases = q.bases;
-          step = subst (λ n. RunIs (runs x) d.c d.o (is_step_of n (runs x)) d.w.steps) (sym core) h.runs_by;
+          step = subst (λ n. RunIs (runs x) d.c d.o (is_step_of n (runs x)) d.w.steps)
+              (sym core) h.runs_by;
           turns = record {
             own = ((λ e. absurd (omega arith)), λ e. absurd (cc e));
             other = ((λ e. absurd (omega arith)), λ e. absurd (theirs e));
@@ -303,7 +358,8 @@ module _
             own = ap (records x) (sym core);
             other = ap (records x) (sym (ap other core ∙ other_is d.apart)) ∙ (g.other_is ∙ took.0);
             step = refl;
-            stands_by = subst (λ (z : ℕ × List D). StandsBy stands x me.0.base z.0 share z.1) (λ k. (core k, took.1 k)) g.stands_by;
+            stands_by = subst (λ (z : ℕ × List D). StandsBy stands x me.0.base z.0 share z.1)
+                (λ k. (core k, took.1 k)) g.stands_by;
           };
           safe = h.safe;
           safe' = h.safe';
@@ -312,24 +368,32 @@ module _
         }
 
     -- a core gives the turn back, with the value
-    pub gives_turn : (slots : ℕ) (x : S) (share : List D) → slots ≡ 1 → me.0.turn ≡ true → me.1 ≡ (0, Some x) ∷ [] → Gives records runs stands me.0 x share
-        → Allows (Ruled records runs stands key) slots id me 1 (λ _. 0) (λ _. TellsGiven records runs stands share (step slots 1 0 0 none) me 0)
+    pub gives_turn : (slots : ℕ) (x : S) (share : List D) → slots ≡ 1 → me.0.turn ≡ true
+        → me.1 ≡ (0, Some x) ∷ [] → Gives records runs stands me.0 x share
+        → Allows (Ruled records runs stands key) slots id me 1 (λ _. 0)
+        (λ _. TellsGiven records runs stands share (step slots 1 0 0 none) me 0)
     gives_turn slots x share single has hand g = λ s r sized at small.
         let d = side records runs stands key s id me.0 r one at in
         let q = d.pairing in let took = q.mine has in
         let v' = without_turn me.0 (records x me.0.core) (runs x) share in
         let homes : List (maybe.Option (Option S)) = slice_set s.homes 0 (some (Some x)) in
-        let h = done me.0 d.c d.o d.lock d.gate d.gate' d.w.phase d.w.registers d.run d.w.steps (below_two d.apart) (sum_one d.apart) q.safe q.safe' q.step q.cores.0 took.2 g.kind (records x me.0.core) (runs x) g.does in
-        let b = d.with_turn 0 (runs x) homes v' (turn_given s d homes x share (only s.homes (some (Some x)) (sized ∙ single)) has g h) in (
+        let h = done me.0 d.c d.o d.lock d.gate d.gate' d.w.phase d.w.registers d.run d.w.steps
+        (below_two d.apart) (sum_one d.apart) q.safe q.safe' q.step q.cores.0 took.2 g.kind
+        (records x me.0.core) (runs x) g.does in
+        let b = d.with_turn 0 (runs x) homes v'
+        (turn_given s d homes x share (only s.homes (some (Some x)) (sized ∙ single)) has g h)
+        in (
           v',
           gives,
           tt,
-          subst (λ hs. Ruled records runs stands key (after records runs stands s id 1 0 hs v')) (ap (put_back s.homes) (sym hand)) (inr (inl b.0)),
+          subst (λ hs. Ruled records runs stands key (after records runs stands s id 1 0 hs v'))
+              (ap (put_back s.homes) (sym hand)) (inr (inl b.0)),
           λ y hand_is. (
             told y (same x y (sym hand ∙ hand_is)),
             (
               g.kind,
-              subst (λ z. Does g.kind me.0 (records z me.0.core) (runs z)) (same x y (sym hand ∙ hand_is)) g.does,
+              subst (λ z. Does g.kind me.0 (records z me.0.core) (runs z))
+                  (same x y (sym hand ∙ hand_is)) g.does,
               record {
                 before = s;
                 then = after records runs stands s id 1 0 homes v';
@@ -339,14 +403,23 @@ module _
                 knew = at;
                 knows = set_at s.views id me.0 v' at;
                 word = d.turn_is ∙ (q.turns.own.1 has ∙ ap (λ n. n + 1) (sym q.cores.0));
-                step = subst (λ (z : Machine × ℕ × Machine). Steps z.0 z.1 g.kind z.2) (λ k. (sym d.machine_is k, sym q.cores.0 k, sym b.1 k)) h.made;
+                step = subst (λ (z : Machine × ℕ × Machine). Steps z.0 z.1 g.kind z.2)
+                    (λ k. (sym d.machine_is k, sym q.cores.0 k, sym b.1 k)) h.made;
               },
             ),
           ),
         )
       where
-        same : (x y : S) → ◌≡◌ {A = List (ℕ × Option S)} ((0, Some x) ∷ []) ((0, Some y) ∷ []) → x ≡ y
-        same x y e = let first : ◌≡◌ {A = ℕ × Option S} (0, Some x) (0, Some y) = cc e in let second : Some x ≡ Some y = ap (λ z. z.1) first in cc second
+        same : (x y : S) → ◌≡◌ {A = List (ℕ × Option S)} ((0, Some x) ∷ []) ((0, Some y) ∷ [])
+            → x ≡ y
+        same x y e = let first : ◌≡◌ {A = ℕ × Option S} (0, Some x) (0, Some y) =
+            cc e in let second : Some x ≡ Some y = ap (λ z. z.1) first in cc second
 
-        told : (y : S) → x ≡ y → ◌≡◌ {A = Me (Option S) (View B D)} (without_turn me.0 (records x me.0.core) (runs x) share, rest me.1) (without_turn me.0 (records y me.0.core) (runs y) share, [])
-        told y e = λ k. (without_turn me.0 (records (e k) me.0.core) (runs (e k)) share, rest (hand k))
+        told : (y : S) → x ≡ y
+            → ◌≡◌ {A = Me (Option S) (View B D)}
+            (without_turn me.0 (records x me.0.core) (runs x) share, rest me.1)
+            (without_turn me.0 (records y me.0.core) (runs y) share, [])
+        told y e = λ k. (
+          without_turn me.0 (records (e k) me.0.core) (runs (e k)) share,
+          rest (hand k),
+        )

@@ -87,7 +87,13 @@ module _ {B D : Type 0} where
   -- what a seat knows once it has given the turn back, with its registers, the running step and its share
   abbrev pub without_turn : View B D → Record → Option ℕ → List D → View B D
   without_turn v registers running share =
-      record v { registers = registers; steps = is_step_of v.core running; share = share; turn = false }
+      record v {
+        registers = registers;
+        steps = is_step_of v.core running;
+        share = share;
+        turn =
+            false;
+      }
 
   -- the view of a seat that took in the other one's
   abbrev pub both_of : View B D → View B D → View B D

@@ -8,4 +8,5 @@ use Rattle.duo_machine.proofs.moves.run.Goals as goal
 pub returns-clause-safe : goal.returns-clause-safe
 returns-clause-safe c safe =
     let none : drop c.loop-e.e-index c.args.events.now ≡ [] = grind (arith, common_steps) in
-    safe_run c.args.m.now c.args.events.now safe c.requires (c.loop-e.invariant.can.1 (subst (CanRun c.loop-e.reached) (sym none) tt))
+    safe_run c.args.m.now c.args.events.now safe c.requires
+    (c.loop-e.invariant.can.1 (subst (CanRun c.loop-e.reached) (sym none) tt))

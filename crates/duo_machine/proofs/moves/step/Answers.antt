@@ -6,4 +6,5 @@ use Rattle.duo_machine.proofs.moves.step.Goals as goal
 
 pub returns-then-allows-clause-safe : goal.returns-then-allows-clause-safe
 returns-then-allows-clause-safe c safe =
-    subst Safe (sym c.changed.ensures) (event_keeps_safe c.args.m.now c.args.e.now c.requires safe (c.if-allows.ensures.0 refl))
+    subst Safe (sym c.changed.ensures)
+    (event_keeps_safe c.args.m.now c.args.e.now c.requires safe (c.if-allows.ensures.0 refl))

@@ -3,4 +3,5 @@ use Rattle.park_words.proofs.May.{may_leave}
 use Rattle.park_words.proofs.words.Words.leave.Goals as goal
 
 pub exchange_gate-requires-clause-may : goal.exchange_gate-requires-clause-may
-exchange_gate-requires-clause-may g c = let V = g.V.Records in may_leave V.records V.runs V.stands _ _ (search rules) c.requires.parked
+exchange_gate-requires-clause-may g c = let V =
+    g.V.Records in may_leave V.records V.runs V.stands _ _ (search rules) c.requires.parked

@@ -3,4 +3,6 @@ use Rattle.park_words.proofs.May.{may_rest}
 use Rattle.park_words.proofs.words.Words.rest.Goals as goal
 
 pub exchange_gate-requires-clause-may : goal.exchange_gate-requires-clause-may
-exchange_gate-requires-clause-may g c = let V = g.V.Records in may_rest V.records V.runs V.stands _ _ (search rules) c.requires.running c.requires.saved
+exchange_gate-requires-clause-may g c = let V =
+    g.V.Records in may_rest V.records V.runs V.stands _ _
+    (search rules) c.requires.running c.requires.saved

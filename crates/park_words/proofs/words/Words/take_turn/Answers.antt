@@ -5,7 +5,11 @@ use Rattle.park_words.proofs.words.Words.take_turn.Goals as goal
 
 pub compare_exchange-word-requires : goal.compare_exchange-word-requires
 compare_exchange-word-requires g c =
-    let V = g.V.Records in (search rules, search rules, takes_turn V.records V.runs V.stands _ _ _ c.seat.invariant.one _ _ (search rules))
+    let V = g.V.Records in (
+      search rules,
+      search rules,
+      takes_turn V.records V.runs V.stands _ _ _ c.seat.invariant.one _ _ (search rules),
+    )
 
 pub exchange-slot-requires : goal.exchange-slot-requires
 exchange-slot-requires g c =
