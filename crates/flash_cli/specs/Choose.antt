@@ -9,15 +9,10 @@ use Rattle.otadata.specs.declared.entry.Entry.{Entry}
 use Rattle.otadata.specs.Entry.{entry_of}
 use Rattle.boot_select.specs.Choice.{named_of}
 use Rattle.flash_cli.specs.declared.choose.Choice.{Choice}
-use Rattle.flash_cli.specs.declared.flash.TheConstants.{SECTOR_SIZE}
+use Rattle.nor_device.specs.Ram.{is_flash_size}
+use Rattle.nor_device.specs.declared.step.TheConstants.{SECTOR_SIZE}
 use Rattle.flash_cli.specs.declared.refusal.Refusal.{Refusal}
 use Rattle.flash_cli.specs.declared.refusal.Refusal.TheVariants.{FlashSize, Table}
-
--- whether a flash has this size: 1, 2, 4, 8 or 16 MiB
-unfoldable pub is_flash_size : ℕ → Bool
-is_flash_size size =
-    (size == 0x100000) || (size == 0x200000) || (size == 0x400000) || (size == 0x800000)
-    || (size == 0x1000000)
 
 -- the entry of this sector of the OTA data
 abbrev pub entry_in : List ℕ → Places → ℕ → Entry

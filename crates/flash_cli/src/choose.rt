@@ -1,18 +1,18 @@
 //! The command `choose`: from the bytes of a flash to what its OTA data choose.
 
 ghost use Rattle.std.specs.Prelude.{◌≡◌, ◌≤◌, ◌+◌, ◌*◌, ◌<◌, ◌^◌, length, slice_range, IfOk};
+ghost use Rattle.nor_device.specs.declared.step.TheConstants.{SECTOR_SIZE};
 ghost use Rattle.otadata.specs.Entry.{entry_of};
 ghost use Rattle.flash_cli.specs.Choose.{choice_of, choice_in, layout_in};
 ghost use Rattle.flash_cli.specs.Command.{Choose};
 ghost use Rattle.flash_cli.specs.Report.{IsEnd, Gives, text_of_choice};
-ghost use Rattle.flash_cli.specs.declared.flash.TheConstants.{SECTOR_SIZE};
 
 use crate::files::read_file;
-use crate::flash::{SECTOR_SIZE, is_flash_size};
 use crate::refusal::Refusal;
 use crate::stop::Stop;
 use crate::text::put_choice;
 use boot_select::named;
+use nor_device::{SECTOR_SIZE, is_flash_size};
 use otadata::Entry;
 use partition_table::{App, Layout, TABLE_OFFSET, TABLE_SIZE, Table, TableBad};
 use pipe_ends::Store;

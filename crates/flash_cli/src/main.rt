@@ -4,7 +4,6 @@
 mod choose;
 mod command;
 mod files;
-mod flash;
 mod refusal;
 mod status;
 mod stop;

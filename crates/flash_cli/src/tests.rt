@@ -185,7 +185,7 @@ fn rows<'a>() -> [Row<'a>; 18] {
             size: 3,
             ..worded(&["choose", "F0"], short, "refused: flash size 3\n")
         },
-        worded(&["choose", "F1"], absent, "refused: absent F1\n"),
+        worded(&["choose", "missing"], absent, "refused: absent missing\n"),
         worded(&[], Status::Usage, USAGE),
         worded(&["choose"], Status::Usage, USAGE),
         worded(&["choose", "F0", "F0"], Status::Usage, USAGE),

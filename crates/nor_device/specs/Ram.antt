@@ -1,5 +1,5 @@
 -- The device in memory, and what its calls do to it.
-use Rattle.std.specs.Prelude.{◌≡◌, ◌⊎◌, ℕ, ◌-◌, ◌==◌, if◌then◌else◌, List, Option, None, Some}
+use Rattle.std.specs.Prelude.{◌≡◌, ◌⊎◌, ℕ, ◌-◌, ◌==◌, Bool, ◌||◌, if◌then◌else◌, List, Option, None, Some}
 use Rattle.nor_device.specs.declared.step.Step.{Step}
 use Rattle.nor_device.specs.declared.nor.Ready.{Ready}
 use Rattle.nor_device.specs.declared.nor.Ready.TheVariants as answers
@@ -20,6 +20,11 @@ pub record Ram : Type 0 where
 -- the bytes that a flash may have: 1, 2, 4, 8 or 16 MiB
 abbrev pub IsFlashSize : ℕ → Type 0
 IsFlashSize n = (n ≡ 1048576) ⊎ (n ≡ 2097152) ⊎ (n ≡ 4194304) ⊎ (n ≡ 8388608) ⊎ (n ≡ 16777216)
+
+-- whether they are as many
+unfoldable pub is_flash_size : ℕ → Bool
+is_flash_size n =
+    (n == 1048576) || (n == 2097152) || (n == 4194304) || (n == 8388608) || (n == 16777216)
 
 -- a step has begun and will answer Busy as often as each does
 abbrev pub begun : Ram → Step → Ram

@@ -3,7 +3,7 @@
 ghost use Rattle.std.specs.Prelude.{◌≡◌, ◌↔◌, ◌≤◌, ◌+◌, ◌++◌, IsTrue, None, IsOk, length, take, drop, replicate};
 ghost use Rattle.nor_device.specs.Flash.{end_of, applied, anded};
 ghost use Rattle.nor_device.specs.Device.{part_of};
-ghost use Rattle.nor_device.specs.Ram.{IsFlashSize, begun, polled, poll_answer};
+ghost use Rattle.nor_device.specs.Ram.{IsFlashSize, is_flash_size, begun, polled, poll_answer};
 
 use crate::nor::{Nor, NorFault, Ready};
 use crate::step::{SECTOR_SIZE, Step};
@@ -135,8 +135,12 @@ impl Nor for RamNor {
 }
 
 /// These are as many bytes as a flash may have: 1, 2, 4, 8 or 16 MiB.
+#[tactic(auto, unfolding(crate::specs::Ram::is_flash_size))]
 pub fn is_flash_size(bytes: usize) -> bool
-    ensures { IsTrue result ↔ IsFlashSize bytes }
+    ensures meaning { IsTrue result ↔ IsFlashSize bytes }
+    ensures value { result ≡ is_flash_size bytes }
+    ensures least { IsTrue result → 1048576 ≤ bytes }
+    ensures most { IsTrue result → bytes ≤ 16777216 }
 {
     matches!(
         bytes,
