@@ -1,5 +1,5 @@
 -- What a bootloader reads of a flash before it starts an application.
-use Rattle.std.specs.Prelude.{ℕ, ◌+◌, ◌*◌, ◌==◌, ◌||◌, Bool, List, length, Result, Ok, Err, if◌then◌else◌, slice_range}
+use Rattle.std.specs.Prelude.{ℕ, ◌+◌, ◌*◌, List, length, Result, Ok, Err, if◌then◌else◌, slice_range}
 use Rattle.partition_table.specs.declared.row.Row.{Row}
 use Rattle.partition_table.specs.declared.table.TheConstants.{TABLE_OFFSET, TABLE_SIZE}
 use Rattle.partition_table.specs.declared.table.TableBad.{TableBad}
