@@ -8,8 +8,8 @@ use Rattle.nor_device.specs.declared.nor.NorFault.{NorFault}
 use Rattle.nor_device.specs.declared.nor.Ready.{Ready}
 use Rattle.nor_device.specs.Flash.{start_of, len_of, end_of, applied, changed_byte, IsInOnePage}
 use Rattle.nor_device.specs.Torn.{IsTornByte, Torn}
-use Rattle.nor_device.specs.Device.{IsAfter, IsTornBy, MayMissStep, IsLeftTorn, one_more, end_by, part_of}
-use Rattle.nor_device.specs.TornLaws.{torn_applied, torn_untouched}
+use Rattle.nor_device.specs.Nor.{IsAfter, IsTornBy, MayMissStep, IsLeftTorn, one_more, end_by, part_of}
+use Rattle.nor_device.proofs.TornLaws.{torn_applied, torn_untouched}
 use Rattle.crash_images.specs.Tear.{masked, torn_part, torn_by, is_erase}
 use Rattle.crash_images.specs.TearLaws.{tear_is_torn, applied_masked, torn_masked, applied_nothing, applied_more, applied_erased, length_masked}
 use Rattle.crash_images.specs.Outside.{StaysOutside, outside_torn, torn_outside, outside_wider, outside_twice}

@@ -6,7 +6,7 @@ use Rattle.nor_device.specs.declared.nor.StepEnd.TheVariants as ends
 use Rattle.nor_device.specs.declared.nor.NorFault.{NorFault}
 use Rattle.nor_device.specs.declared.nor.NorFault.TheVariants as faults
 use Rattle.nor_device.specs.Flash.{end_of, IsInOnePage}
-use Rattle.nor_device.specs.Device.{end_by}
+use Rattle.nor_device.specs.Nor.{end_by}
 use Rattle.crash_images.specs.declared.cut.Health.{Health}
 use Rattle.crash_images.specs.declared.cut.Health.TheVariants.{Sound, Due, Off, Failed}
 use Rattle.crash_images.specs.declared.cut.CutSetting.{CutSetting}

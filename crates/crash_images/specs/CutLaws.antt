@@ -6,7 +6,7 @@ use Rattle.nor_device.specs.declared.nor.StepEnd.{StepEnd}
 use Rattle.nor_device.specs.declared.nor.StepEnd.TheVariants as ends
 use Rattle.nor_device.specs.declared.nor.NorFault.{NorFault}
 use Rattle.nor_device.specs.declared.nor.NorFault.TheVariants as faults
-use Rattle.nor_device.specs.Device.{end_by}
+use Rattle.nor_device.specs.Nor.{end_by}
 use Rattle.crash_images.specs.declared.cut.CutSetting.{CutSetting}
 use Rattle.crash_images.specs.Tear.{torn_by}
 use Rattle.crash_images.specs.Cut.{IsAhead, NotBoth, IsBad, EndsBy, MayRefuse, CutMayEnd, CutMayTear, CutMayRefuse}

@@ -5,7 +5,7 @@ use Rattle.std.proofs.lemmas.List.{append-nil, append_assoc}
 use Rattle.nor_device.specs.declared.step.Step.{Step}
 use Rattle.nor_device.specs.Flash.{applied, after_steps}
 use Rattle.nor_device.specs.Torn.{Torn}
-use Rattle.nor_device.specs.FlashLaws.{after_steps_append}
+use Rattle.nor_device.proofs.FlashLaws.{after_steps_append}
 use Rattle.crash_images.specs.Left.{TornByFirst, LeftAfter}
 
 -- before the first step

@@ -8,9 +8,9 @@ use Rattle.nor_device.specs.declared.step.Step.{Step}
 use Rattle.nor_device.specs.declared.step.Step.TheVariants.{Erase, Program}
 use Rattle.nor_device.specs.Flash.{start_of, len_of, end_of, anded, applied, changed_byte, byte_after}
 use Rattle.nor_device.specs.Torn.{IsTornProgram, IsTornByte, Torn}
-use Rattle.nor_device.specs.Splice.{length-spliced, spliced_below, spliced_within, spliced_above, part_byte}
-use Rattle.nor_device.specs.FlashLaws.{length-anded, get_or-anded, length_applied, byte_applied, byte_after_outside, byte_after_inside}
-use Rattle.nor_device.specs.TornLaws.{torn_program_made}
+use Rattle.nor_device.proofs.Splice.{length-spliced, spliced_below, spliced_within, spliced_above, part_byte}
+use Rattle.nor_device.proofs.FlashLaws.{length-anded, get_or-anded, length_applied, byte_applied, byte_after_outside, byte_after_inside}
+use Rattle.nor_device.proofs.TornLaws.{torn_program_made}
 use Rattle.crash_images.specs.Tear.{mask_at, masked, torn_byte_of, torn_part, torn_by, is_erase, data_byte_of}
 
 -- setting bits keeps the length

@@ -1,7 +1,7 @@
 //! A device over another, whose power goes off, or which fails, in the step of a chosen number.
 
 ghost use Rattle.std.specs.Prelude.{◌≡◌, ◌+◌, true, false, None, IsSome, IfErr, OnOk};
-ghost use Rattle.nor_device.specs.Device.{one_more};
+ghost use Rattle.nor_device.specs.Nor.{one_more};
 ghost use Rattle.crash_images.specs.Cut.{cut_device, IsAhead, NotBoth, IsBad, running_by, left_by, restarted, unspent_of, health_by};
 
 use crate::crash::Crash;

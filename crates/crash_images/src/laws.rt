@@ -6,7 +6,7 @@ ghost use Rattle.nor_device.specs.declared.nor.StepEnd.{StepEnd};
 ghost use Rattle.nor_device.specs.declared.nor.NorFault.{NorFault};
 ghost use Rattle.nor_device.specs.Flash.{start_of, end_of, applied, after_steps};
 ghost use Rattle.nor_device.specs.Torn.{Torn};
-ghost use Rattle.nor_device.specs.Device.{end_by};
+ghost use Rattle.nor_device.specs.Nor.{end_by};
 ghost use Rattle.crash_images.specs.declared.cut.CutSetting.{CutSetting};
 ghost use Rattle.crash_images.specs.Tear.{torn_by, torn_byte_of, data_byte_of, is_erase};
 ghost use Rattle.crash_images.specs.Left.{LeftAfter};

@@ -4,7 +4,7 @@
 ghost use Rattle.std.specs.Prelude.{◌≡◌, ℕ, ◌+◌, ◌*◌, ◌%◌, ◌<◌, ◌≤◌, ◌^◌, true, None, Some, OnOk, OnErr, length, slice_index};
 ghost use Rattle.nor_device.specs.declared.step.Step.TheVariants.{Erase, Program};
 ghost use Rattle.nor_device.specs.Flash.{start_of, len_of, end_of, IsInOnePage, IsPageLength};
-ghost use Rattle.nor_device.specs.Device.{HasCause, KeepsSetting, IsAfter, IsTornBy, IsLeftTorn};
+ghost use Rattle.nor_device.specs.Nor.{HasCause, KeepsSetting, IsAfter, IsTornBy, IsLeftTorn};
 ghost use Rattle.crash_images.specs.Tear.{masked, is_erase};
 ghost use Rattle.crash_images.specs.Outside.{StaysOutside};
 ghost use Rattle.crash_images.specs.Cut.{MayRefuse, TearLeaves, IsTornByNumber};

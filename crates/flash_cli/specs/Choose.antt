@@ -9,7 +9,7 @@ use Rattle.otadata.specs.declared.entry.Entry.{Entry}
 use Rattle.otadata.specs.Entry.{entry_of}
 use Rattle.boot_select.specs.Choice.{named_of}
 use Rattle.flash_cli.specs.declared.choose.Choice.{Choice}
-use Rattle.nor_device.specs.Ram.{is_flash_size}
+use Rattle.nor_device.specs.FlashSize.{is_flash_size}
 use Rattle.nor_device.specs.declared.step.TheConstants.{SECTOR_SIZE}
 use Rattle.flash_cli.specs.declared.refusal.Refusal.{Refusal}
 use Rattle.flash_cli.specs.declared.refusal.Refusal.TheVariants.{FlashSize, Table}

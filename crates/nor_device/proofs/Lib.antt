@@ -1,1 +1,5 @@
+pub mod Splice
+pub mod FlashLaws
+pub mod TornLaws
+pub mod Missed
 mod Erased

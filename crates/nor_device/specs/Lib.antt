@@ -1,8 +1,7 @@
 pub mod Flash
+pub mod FlashSize
 pub mod Torn
-pub mod Device
+pub mod Nor
+pub mod Make
 pub mod Ram
 pub mod RamView
-pub mod Splice
-pub mod FlashLaws
-pub mod TornLaws

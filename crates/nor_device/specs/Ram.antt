@@ -1,10 +1,10 @@
 -- The device in memory, and what its calls do to it.
-use Rattle.std.specs.Prelude.{◌≡◌, ◌⊎◌, ℕ, ◌-◌, ◌==◌, Bool, ◌||◌, if◌then◌else◌, List, Option, None, Some}
+use Rattle.std.specs.Prelude.{ℕ, ◌-◌, ◌==◌, if◌then◌else◌, List, Option, None, Some}
 use Rattle.nor_device.specs.declared.step.Step.{Step}
 use Rattle.nor_device.specs.declared.nor.Ready.{Ready}
 use Rattle.nor_device.specs.declared.nor.Ready.TheVariants as answers
 use Rattle.nor_device.specs.Flash.{applied}
-use Rattle.nor_device.specs.Device.{one_more}
+use Rattle.nor_device.specs.Nor.{one_more}
 
 -- what a contract sees of it
 pub record Ram : Type 0 where
@@ -17,20 +17,11 @@ pub record Ram : Type 0 where
   pub left : ℕ
   pub steps : ℕ
 
--- the bytes that a flash may have: 1, 2, 4, 8 or 16 MiB
-abbrev pub IsFlashSize : ℕ → Type 0
-IsFlashSize n = (n ≡ 1048576) ⊎ (n ≡ 2097152) ⊎ (n ≡ 4194304) ⊎ (n ≡ 8388608) ⊎ (n ≡ 16777216)
-
--- whether they are as many
-unfoldable pub is_flash_size : ℕ → Bool
-is_flash_size n =
-    (n == 1048576) || (n == 2097152) || (n == 4194304) || (n == 8388608) || (n == 16777216)
-
 -- a step has begun and will answer Busy as often as each does
 abbrev pub begun : Ram → Step → Ram
 begun ram step = record ram { running = Some step; left = ram.polls; steps = one_more ram.steps }
 
--- the bytes behind the step, where one runs
+-- the bytes after the step, where one runs
 abbrev pub ended_bytes : Option Step → List ℕ → List ℕ
 ended_bytes None bytes = bytes
 ended_bytes (Some step) bytes = applied bytes step

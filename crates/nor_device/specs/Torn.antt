@@ -9,9 +9,9 @@ pub record IsTornProgram (data_byte old new : ℕ) : Type 0 where
   pub sets_none : bit_or new old ≡ old
   pub keeps : bit_and (bit_and new old) data_byte ≡ bit_and old data_byte
 
--- what may stand at the k-th byte of the range: anything in an erase, and in a program a torn byte
+-- what may stand at the k-th byte of the range: any byte in an erase, and in a program a torn byte
 abbrev pub IsTornByte : Step → ℕ → ℕ → ℕ → Type 0
-IsTornByte (Erase sector) k old new = Unit {0}
+IsTornByte (Erase sector) k old new = old < 256 → new < 256
 IsTornByte (Program at page) k old new = IsTornProgram (slice_index page k) old new
 
 -- what may stand at an address: the old byte outside the step's range, and in it a torn byte

@@ -1,12 +1,20 @@
 //! What holds of every flash and every step.
 
-ghost use Rattle.std.specs.Prelude.{◌≡◌, ℕ, ◌<◌, List, ◌++◌, length, slice_index};
+ghost use Rattle.std.specs.Prelude.{◌≡◌, ℕ, ◌<◌, All, List, ◌++◌, length, slice_index};
+ghost use Rattle.nor_device.specs.declared.page.TheConstants.{PAGE_SIZE};
+ghost use Rattle.nor_device.specs.declared.step.TheConstants.{SECTOR_SIZE};
 ghost use Rattle.nor_device.specs.declared.step.Step.{Step};
 ghost use Rattle.nor_device.specs.Flash.{applied, after_steps, byte_after};
 ghost use Rattle.nor_device.specs.Torn.{Torn};
 
+/// A page has 256 bytes, and a sector 4096.
+pub fn laws_of_sizes()
+    ensures page { PAGE_SIZE ≡ 256 }
+    ensures sector { SECTOR_SIZE ≡ 4096 }
+{}
+
 /// What a step makes of each byte, and a list of steps of the flash.
-#[tactic(auto, using(crate::specs::FlashLaws::length_applied, crate::specs::FlashLaws::byte_applied, crate::specs::FlashLaws::after_steps_append))]
+#[tactic(auto, using(crate::proofs::FlashLaws::length_applied, crate::proofs::FlashLaws::byte_applied, crate::proofs::FlashLaws::after_steps_append))]
 pub fn laws_of_steps()
     ensures length { (flash : List ℕ) (step : Step) → length (applied flash step) ≡ length flash }
     ensures byte { (flash : List ℕ) (step : Step) (i : ℕ) → i < length flash
@@ -17,7 +25,7 @@ pub fn laws_of_steps()
 
 /// What a step that was cut short may leave: nothing done, all done, and with it all that a second cut leaves.
 /// The step made again over a torn flash is the step made once.
-#[tactic(auto, using(crate::specs::TornLaws::applied_torn))]
+#[tactic(auto, using(crate::proofs::TornLaws::applied_torn))]
 pub fn laws_of_torn_flashes()
     ensures not_begun { (flash : List ℕ) (step : Step) → Torn flash step flash }
     ensures made { (flash : List ℕ) (step : Step) → Torn flash step (applied flash step) }
@@ -25,4 +33,6 @@ pub fn laws_of_torn_flashes()
         → Torn first step second → Torn second step third → Torn first step third }
     ensures again { (flash torn : List ℕ) (step : Step)
         → Torn flash step torn → applied torn step ≡ applied flash step }
+    ensures bytes { (flash torn : List ℕ) (step : Step)
+        → Torn flash step torn → All (λ b. b < 256) flash → All (λ b. b < 256) torn }
 {}

@@ -7,7 +7,7 @@ ghost use Rattle.nor_device.specs.declared.step.Step.{Step};
 ghost use Rattle.nor_device.specs.declared.nor.StepEnd.{StepEnd};
 ghost use Rattle.nor_device.specs.declared.nor.NorFault.{NorFault};
 ghost use Rattle.nor_device.specs.Flash.{end_of, IsInOnePage};
-ghost use Rattle.nor_device.specs.Device.{HasCause, KeepsSetting, KeepsSteps, IsIdleAsBefore, GoesOn, IsMade, IsLeftTorn, one_more, end_by, IsPart};
+ghost use Rattle.nor_device.specs.Nor.{HasCause, KeepsSetting, KeepsSteps, IsIdleAsBefore, StillRuns, IsMade, IsLeftTorn, one_more, end_by, IsPart};
 
 use crate::step::Step;
 
@@ -114,7 +114,7 @@ pub trait Nor {
     /// Asks whether the step has ended. A refusal ends it too, torn.
     fn poll(&mut self) -> Result<Ready, NorFault>
         requires running { IsSome (running self.old) }
-        ensures busy { result ≡ Ok Ready.Busy → GoesOn bytes running left self.old self.new }
+        ensures busy { result ≡ Ok Ready.Busy → StillRuns bytes running left self.old self.new }
         ensures ready { result ≡ Ok Ready.Ready → running self.new ≡ None }
         ensures made { result ≡ Ok Ready.Ready → IsMade (running self.old) (bytes self.old) (bytes self.new) }
         ensures done { result ≡ Ok Ready.Ready → may_end (setting self.old) (steps self.old) StepEnd.Done }

@@ -53,9 +53,9 @@ impl Page {
         &self.bytes[..self.len]
     }
 
-    /// The same page once more.
-    pub fn again(&self) -> Page
-        ensures { result ≡ self.now }
+    /// A copy of the page.
+    pub fn copy(&self) -> Page
+        ensures exact { result ≡ self.now }
     {
         Page {
             bytes: self.bytes,

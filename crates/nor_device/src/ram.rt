@@ -1,9 +1,10 @@
 //! A flash in memory: each step is made in its last poll.
 
-ghost use Rattle.std.specs.Prelude.{◌≡◌, ◌↔◌, ◌≤◌, ◌+◌, ◌++◌, IsTrue, None, IsOk, length, take, drop, replicate};
+ghost use Rattle.std.specs.Prelude.{◌≡◌, ◌≤◌, ◌+◌, ◌++◌, None, IsOk, length, take, drop, replicate};
 ghost use Rattle.nor_device.specs.Flash.{end_of, applied, anded};
-ghost use Rattle.nor_device.specs.Device.{part_of};
-ghost use Rattle.nor_device.specs.Ram.{IsFlashSize, is_flash_size, begun, polled, poll_answer};
+ghost use Rattle.nor_device.specs.Nor.{part_of};
+ghost use Rattle.nor_device.specs.FlashSize.{IsFlashSize};
+ghost use Rattle.nor_device.specs.Ram.{begun, polled, poll_answer};
 
 use crate::nor::{Nor, NorFault, Ready};
 use crate::step::{SECTOR_SIZE, Step};
@@ -112,7 +113,7 @@ impl Nor for RamNor {
         ensures ok { IsOk result }
         ensures begun { self.new ≡ begun self.old step.now }
     {
-        self.running = Some(step.again());
+        self.running = Some(step.copy());
         self.left = self.polls;
         self.steps = self.steps.saturating_add(1);
         Ok(())
@@ -127,28 +128,15 @@ impl Nor for RamNor {
             self.left -= 1;
             return Ok(Ready::Busy);
         }
-        if let Some(step) = self.running.take() {
-            apply(&mut self.bytes, &step);
+        if let Some(step) = &self.running {
+            apply(&mut self.bytes, step);
         }
+        self.running = None;
         Ok(Ready::Ready)
     }
 }
 
-/// These are as many bytes as a flash may have: 1, 2, 4, 8 or 16 MiB.
-#[tactic(auto, unfolding(crate::specs::Ram::is_flash_size))]
-pub fn is_flash_size(bytes: usize) -> bool
-    ensures meaning { IsTrue result ↔ IsFlashSize bytes }
-    ensures value { result ≡ is_flash_size bytes }
-    ensures least { IsTrue result → 1048576 ≤ bytes }
-    ensures most { IsTrue result → bytes ≤ 16777216 }
-{
-    matches!(
-        bytes,
-        1_048_576 | 2_097_152 | 4_194_304 | 8_388_608 | 16_777_216
-    )
-}
-
-// Makes the step in the bytes.
+/// Makes the step in the bytes.
 fn apply(bytes: &mut [u8], step: &Step)
     requires { end_of step.now ≤ length bytes.old }
     ensures { bytes.new ≡ applied bytes.old step.now }
@@ -162,7 +150,7 @@ fn apply(bytes: &mut [u8], step: &Step)
     }
 }
 
-// Sets the bytes of the range to 0xFF.
+/// Sets the bytes of the range to 0xFF.
 fn erase(bytes: &mut [u8], start: usize, len: usize)
     requires { start + len ≤ length bytes.old }
     ensures { bytes.new ≡ take start bytes.old
@@ -171,7 +159,7 @@ fn erase(bytes: &mut [u8], start: usize, len: usize)
     bytes[start..start + len].fill(0xFF);
 }
 
-// ANDs the data into the bytes.
+/// ANDs the data into the bytes.
 fn program(bytes: &mut [u8], start: usize, data: &[u8])
     requires { start + length «data».now ≤ length bytes.old }
     ensures { bytes.new ≡ take start bytes.old
@@ -181,7 +169,7 @@ fn program(bytes: &mut [u8], start: usize, data: &[u8])
     and_into(&mut bytes[start..start + data.len()], data);
 }
 
-// ANDs each byte with the one of the data.
+/// ANDs each byte with the one of the data.
 fn and_into(part: &mut [u8], data: &[u8])
     requires { length part.old ≡ length «data».now }
     ensures { part.new ≡ anded part.old «data».now }

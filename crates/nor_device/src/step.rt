@@ -31,15 +31,15 @@ impl Step {
         }
     }
 
-    /// The same step once more.
-    pub fn again(&self) -> Step
-        ensures { result ≡ self.now }
+    /// A copy of the step.
+    pub fn copy(&self) -> Step
+        ensures exact { result ≡ self.now }
     {
         match self {
             Step::Erase { sector } => Step::Erase { sector: *sector },
             Step::Program { at, bytes } => Step::Program {
                 at: *at,
-                bytes: bytes.again(),
+                bytes: bytes.copy(),
             },
         }
     }

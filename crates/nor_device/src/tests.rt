@@ -1,7 +1,10 @@
 //! What no clause says: that the rows come out at a real size, and each generic call at a concrete device.
 
-ghost use Rattle.std.specs.Prelude.{◌≡◌, ◌+◌, ◌≤◌, ◌^◌, None, IfOk, length};
-ghost use Rattle.nor_device.specs.Flash.{len_of, end_of, IsInOnePage};
+ghost use Rattle.std.specs.Prelude.{◌≡◌, ◌⊎◌, ◌+◌, ◌≤◌, ◌^◌, None, Some, IfSome, IfOk, IfErr, OnOk, length};
+ghost use Rattle.nor_device.specs.declared.nor.StepEnd.{StepEnd};
+ghost use Rattle.nor_device.specs.Flash.{len_of, end_of, applied, IsInOnePage};
+ghost use Rattle.nor_device.specs.Nor.{one_more};
+ghost use Rattle.nor_device.specs.Make.{IsMissed};
 
 use crate::*;
 use std::alloc::{AllocError, Global};
@@ -9,14 +12,14 @@ use std::test::Fail;
 
 const SIZE: usize = 1_048_576;
 
-// As many bytes of one value.
+/// As many bytes of one value.
 fn filled(alloc: Global, byte: u8, size: usize) -> Result<Vec<u8>, AllocError>
     ensures { IfOk result (λ bytes. length bytes.items ≡ size) }
 {
     Ok(vec![in alloc; byte; size]?)
 }
 
-// The byte at an address.
+/// The byte at an address.
 fn byte_at<D: Nor>(device: &mut D, at: u32) -> Result<u8, NorFault>
     requires idle { D.running device.old ≡ None }
     requires inside { at + 1 ≤ D.size device.old }
@@ -28,8 +31,8 @@ fn byte_at<D: Nor>(device: &mut D, at: u32) -> Result<u8, NorFault>
     Ok(byte[0])
 }
 
-// Makes a step, and tells the byte at its first address.
-fn byte_behind<D: Nor>(device: &mut D, step: &Step) -> Result<u8, NorFault>
+/// Makes a step, and tells the byte at its first address.
+fn byte_after<D: Nor>(device: &mut D, step: &Step) -> Result<u8, NorFault>
     requires idle { D.running device.old ≡ None }
     requires paged { IsInOnePage step.now }
     requires small { end_of step.now ≤ 2 ^ 32 }
@@ -43,6 +46,34 @@ fn byte_behind<D: Nor>(device: &mut D, step: &Step) -> Result<u8, NorFault>
     byte_at(device, first)
 }
 
+/// Makes two steps in a row: both are whole and counted, or one of them was missed.
+fn make_two<D: Nor>(device: &mut D, first: &Step, second: &Step) -> Result<(), NorFault>
+    requires idle { D.running device.old ≡ None }
+    requires first_paged { IsInOnePage first.now }
+    requires first_small { end_of first.now ≤ 2 ^ 32 }
+    requires first_inside { end_of first.now ≤ D.size device.old }
+    requires second_paged { IsInOnePage second.now }
+    requires second_small { end_of second.now ≤ 2 ^ 32 }
+    requires second_inside { end_of second.now ≤ D.size device.old }
+    ensures idle { D.running device.new ≡ None }
+    ensures counted { OnOk result (D.steps device.new ≡ one_more (one_more (D.steps device.old))) }
+    ensures made { OnOk result (IfSome (D.bytes device.old) (λ flash.
+        D.bytes device.new ≡ Some (applied (applied flash first.now) second.now))) }
+    ensures done { OnOk result
+        (D.may_end (D.setting device.old) (one_more (D.steps device.old)) StepEnd.Done) }
+    ensures missed { IfErr result (λ why.
+        IsMissed D.may_end D.may_tear D.may_refuse D.must_refuse
+        (D.setting device.old) first.now (D.steps device.old) (D.steps device.new)
+        (D.bytes device.old) (D.bytes device.new) why
+        ⊎ IfSome (D.bytes device.old) (λ flash.
+        IsMissed D.may_end D.may_tear D.may_refuse D.must_refuse
+        (D.setting device.old) second.now (one_more (D.steps device.old)) (D.steps device.new)
+        (Some (applied flash first.now)) (D.bytes device.new) why)) }
+{
+    make_step(device, first)?;
+    make_step(device, second)
+}
+
 #[test]
 fn a_program_clears_bits_and_an_erase_sets_them(rt: HostRuntime) -> Result<(), Fail> {
     let mut device = RamNor::of_bytes(filled(rt.alloc(), 0x3C, SIZE)?, 2);
@@ -50,12 +81,12 @@ fn a_program_clears_bits_and_an_erase_sets_them(rt: HostRuntime) -> Result<(), F
         at: 0,
         bytes: Page::of(&[0x0F]).ok_or("one byte is a page")?,
     };
-    assert_eq!(rt; byte_behind(&mut device, &program), Ok(0x0C), "a program");
+    assert_eq!(rt; byte_after(&mut device, &program), Ok(0x0C), "a program");
     let erase = Step::Erase { sector: 0 };
-    assert_eq!(rt; byte_behind(&mut device, &erase), Ok(0xFF), "an erase");
+    assert_eq!(rt; byte_after(&mut device, &erase), Ok(0xFF), "an erase");
     let bytes = device.into_bytes();
     assert_eq!(rt; bytes[4095], 0xFF, "the last byte of the sector");
-    assert_eq!(rt; bytes[4096], 0x3C, "the first byte behind it");
+    assert_eq!(rt; bytes[4096], 0x3C, "the first byte of the next sector");
     Ok(())
 }
 

@@ -1,6 +1,6 @@
 use Rattle.std.proofs.Common.{◌≡◌, ◌≤◌, ◌-◌, ◌%◌, ◌<◌, false, None, take, length}
 use Rattle.nor_device.specs.declared.step.Step.TheVariants.{Program}
-use Rattle.nor_device.specs.Device.{KeepsSetting, IsAfter}
+use Rattle.nor_device.specs.Nor.{KeepsSetting, IsAfter}
 use Rattle.crash_images.proofs.tear.put_back.Given as goal
 
 -- the pages in front are put back

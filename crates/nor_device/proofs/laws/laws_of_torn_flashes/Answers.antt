@@ -1,4 +1,4 @@
-use Rattle.nor_device.specs.TornLaws.{torn_self, torn_applied, torn_twice}
+use Rattle.nor_device.proofs.TornLaws.{torn_self, torn_applied, torn_twice, torn_small}
 use Rattle.nor_device.proofs.laws.laws_of_torn_flashes.Goals as goal
 
 -- each is the lemma of its name
@@ -10,3 +10,6 @@ returns-clause-made c = torn_applied
 
 pub returns-clause-twice : goal.returns-clause-twice
 returns-clause-twice c = torn_twice
+
+pub returns-clause-bytes : goal.returns-clause-bytes
+returns-clause-bytes c = torn_small

@@ -1,5 +1,5 @@
 use Rattle.std.proofs.Common.{◌≡◌, IsSome}
-use Rattle.nor_device.specs.Device.{KeepsSetting}
+use Rattle.nor_device.specs.Nor.{KeepsSetting}
 use Rattle.nor_device.proofs.make.finish.Given as goal
 
 abbrev pub invariant-loop : goal.invariant-loop

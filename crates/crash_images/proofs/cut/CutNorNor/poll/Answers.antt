@@ -1,5 +1,5 @@
 use Rattle.std.proofs.Common.{sym, subst, OnErr, IfErr}
-use Rattle.nor_device.specs.Device.{IsLeftTorn, end_by}
+use Rattle.nor_device.specs.Nor.{IsLeftTorn, end_by}
 use Rattle.crash_images.specs.Cut.{CutDevice, CutMayTear, CutMayEnd, running_by}
 use Rattle.crash_images.specs.declared.cut.Health.{Health}
 use Rattle.crash_images.proofs.Told.{poll_refused, poll_ended}

@@ -1,16 +1,18 @@
 -- What holds of every torn flash.
 use Rattle.std.specs.Prelude.{◌≡◌, ℕ, ◌-◌, ◌<◌, List, length, slice_index, bit_and, bit_or, refl, Option, Some, None}
-use Rattle.std.proofs.Common.{sym, ◌∙◌, ap, subst, inl, inr, arith}
+use Rattle.std.proofs.Common.{lit<, sym, ◌∙◌, ap, subst, inl, inr, arith}
 use Rattle.std.proofs.lemmas.List.{ext_get_or}
 use Rattle.std.proofs.lemmas.Bool.{cases_lt}
-use Rattle.std.proofs.lemmas.Nat.{and_assoc, and_comm}
+use Rattle.std.proofs.lemmas.Nat.{and_assoc, and_comm, le_or_l}
+use Rattle.std.proofs.lemmas.List.Elements.{All-get_or, All-from_get_or}
+use Rattle.std.specs.List.{All}
 use Rattle.std.specs.Int.Bits.{or_add_and, and_self}
 use Rattle.nor_device.specs.declared.step.Step.{Step}
 use Rattle.nor_device.specs.declared.step.Step.TheVariants.{Erase, Program}
 use Rattle.nor_device.specs.Flash.{start_of, end_of, applied, byte_after, changed_byte}
 use Rattle.nor_device.specs.Torn.{IsTornProgram, IsTornByte, TornAt, Torn}
-use Rattle.nor_device.specs.Device.{IsTornBy}
-use Rattle.nor_device.specs.FlashLaws.{length_applied, byte_applied, byte_after_outside, byte_after_inside}
+use Rattle.nor_device.specs.Make.{IsTornBy}
+use Rattle.nor_device.proofs.FlashLaws.{length_applied, byte_applied, byte_after_outside, byte_after_inside}
 
 -- no bit of the first is beside the second
 and_of_or : (a b : ℕ) → bit_or a b ≡ b → bit_and a b ≡ a
@@ -34,7 +36,7 @@ torn_program data_byte old new within kept = record {
 
 -- a byte that a program has not touched is torn of itself
 pub torn_byte_self : (step : Step) (k byte : ℕ) → IsTornByte step k byte byte
-torn_byte_self (Erase sector) k byte = tt
+torn_byte_self (Erase sector) k byte = λ small. small
 torn_byte_self (Program at page) k byte =
     torn_program (slice_index page k) byte byte (and_self byte) refl
 
@@ -50,13 +52,13 @@ torn_program_made d byte =
 -- a byte that a step has changed is torn
 pub torn_byte_changed : (step : Step) (k byte : ℕ)
     → IsTornByte step k byte (changed_byte step k byte)
-torn_byte_changed (Erase sector) k byte = tt
+torn_byte_changed (Erase sector) k byte = λ small. lit< tt
 torn_byte_changed (Program at page) k byte = torn_program_made (slice_index page k) byte
 
 -- torn twice by one step is torn once
 pub torn_byte_twice : (step : Step) (k a b c : ℕ) → IsTornByte step k a b → IsTornByte step k b c
     → IsTornByte step k a c
-torn_byte_twice (Erase sector) k a b c first second = tt
+torn_byte_twice (Erase sector) k a b c first second = λ small. second (first small)
 torn_byte_twice (Program at page) k a b c first second =
     let d = slice_index page k in
     let b_in_a = and_of_or b a first.sets_none in
@@ -64,6 +66,32 @@ torn_byte_twice (Program at page) k a b c first second =
     let c_in_a : bit_and c a ≡ c = ap (λ (x : ℕ). bit_and x a) (sym c_in_b) ∙ and_assoc a c b
     ∙ ap (λ (x : ℕ). bit_and c x) b_in_a ∙ c_in_b in
     torn_program d a c c_in_a (torn_and d b c second ∙ torn_and d a b first)
+
+-- what is left of a byte is a byte: an erase keeps it one, and a program sets no bit
+pub torn_byte_small : (step : Step) (k old new : ℕ) → IsTornByte step k old new → old < 256
+    → new < 256
+torn_byte_small (Erase sector) k old new torn small = torn small
+torn_byte_small (Program at page) k old new torn small =
+    omega (arith, le_or_l new old, torn.sets_none)
+
+-- at every address
+pub torn_at_small : (step : Step) (i old new : ℕ) → TornAt step i old new → old < 256 → new < 256
+torn_at_small step i old new torn small = elim (cases_lt i (start_of step)) [
+  | inl low ↦ subst (λ (b : ℕ). b < 256) (sym (torn.outside (inl low))) small
+  | inr from ↦ elim (cases_lt i (end_of step)) [
+    | inl to ↦ torn_byte_small step (i - start_of step) old new (torn.inside from to) small
+    | inr after ↦ subst (λ (b : ℕ). b < 256) (sym (torn.outside (inr after))) small
+  ]
+]
+
+-- so a torn flash of bytes is one of bytes
+pub torn_small : (old new : List ℕ) (step : Step) → Torn old step new → All (λ b. b < 256) old
+    → All (λ b. b < 256) new
+torn_small old new step torn small =
+    All-from_get_or (λ b. b < 256) new 0 (λ i inside.
+    let there : i < length old = omega (arith, inside, torn.same_length) in
+    torn_at_small step i (slice_index old i) (slice_index new i) (torn.byte i there)
+    (All-get_or (λ b. b < 256) old i 0 there small))
 
 -- the step makes of a torn byte what it makes of the byte before
 pub changed_byte_torn : (step : Step) (k old new : ℕ) → IsTornByte step k old new
@@ -123,8 +151,8 @@ byte_after_torn step i old new torn = elim (cases_lt i (start_of step)) [
     | inl to ↦ byte_after_inside step i new from to
         ∙ changed_byte_torn step (i - start_of step) old new (torn.inside from to)
         ∙ sym (byte_after_inside step i old from to)
-    | inr behind ↦ byte_after_outside step i new (inr behind) ∙ torn.outside (inr behind)
-        ∙ sym (byte_after_outside step i old (inr behind))
+    | inr after ↦ byte_after_outside step i new (inr after) ∙ torn.outside (inr after)
+        ∙ sym (byte_after_outside step i old (inr after))
   ]
 ]
 

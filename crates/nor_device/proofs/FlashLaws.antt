@@ -7,7 +7,7 @@ use Rattle.std.proofs.lemmas.Bool.Decides.{nat_tests}
 use Rattle.nor_device.specs.declared.step.Step.{Step}
 use Rattle.nor_device.specs.declared.step.Step.TheVariants.{Erase, Program}
 use Rattle.nor_device.specs.Flash.{start_of, len_of, end_of, anded, part_after, applied, after_steps, is_in_range, changed_byte, byte_after}
-use Rattle.nor_device.specs.Splice.{length-spliced, spliced_below, spliced_within, spliced_above, part_byte}
+use Rattle.nor_device.proofs.Splice.{length-spliced, spliced_below, spliced_within, spliced_above, part_byte}
 
 -- ANDing keeps the length
 pub length-anded : (old new : List ℕ) → length (anded old new) ≡ length old

@@ -69,22 +69,7 @@ module _ {D : Type 0} (bytes : D → Option (List ℕ)) (running : D → Option 
 
 module _ {D : Type 0} (bytes : D → Option (List ℕ)) (running : D → Option Step) (left : D → ℕ) where
   -- the step still runs and needs fewer polls, and no byte has changed
-  pub record GoesOn (old new : D) : Type 0 where
+  pub record StillRuns (old new : D) : Type 0 where
     pub running_same : running new ≡ running old
     pub left_falls : left new < left old
     pub bytes_same : bytes new ≡ bytes old
-
--- where the device tells its bytes, they are those behind the step
-abbrev pub IsAfter : Step → Option (List ℕ) → Option (List ℕ) → Type 0
-IsAfter step old new = IfSome old (λ flash. new ≡ Some (applied flash step))
-
--- where the device tells its bytes, it still tells them, and they are torn by the step
-abbrev pub IsTornBy : Step → Option (List ℕ) → Option (List ℕ) → Type 0
-IsTornBy step old new =
-    IfSome old (λ flash. (left : List ℕ) × (new ≡ Some left) × Torn flash step left)
-
--- the setting allows that the next step is refused so, at its start or in a poll
-abbrev pub MayMissStep : {S : Type 0} → (S → ℕ → StepEnd → Type 0) → (S → ℕ → NorFault → Type 0) → S
-    → ℕ → NorFault → Type 0
-MayMissStep may_end may_refuse setting steps why =
-    may_refuse setting steps why ⊎ may_end setting (one_more steps) (end_by why)
