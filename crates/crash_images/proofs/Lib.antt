@@ -1,1 +1,5 @@
+pub mod TearLaws
+pub mod LeftLaws
+pub mod AgreesLaws
+pub mod CutLaws
 mod Told

@@ -1,24 +1,28 @@
 -- What calls on the device inside leave of the bytes that it tells.
-use Rattle.std.proofs.Common.{◌≡◌, ◌<◌, ◌≤◌, ◌+◌, ℕ, List, [], ◌++◌, length, get_or, take, drop, Option, Some, None, Result, Ok, Err, IfErr, OnOk, OnErr, IfSome, true, ◌-◌, refl, sym, ◌∙◌, ap, subst, inl, inr, arith, take-append-drop, length-drop}
+use Rattle.std.proofs.Common.{◌≡◌, ◌<◌, ◌≤◌, ◌+◌, ℕ, List, [], ◌++◌, length, get_or, take, drop, Option, Some, None, Result, Ok, Err, IfErr, OnOk, OnErr, IfSome, true, ◌-◌, slice_index, refl, sym, ◌∙◌, ap, subst, inl, inr, arith, take-append-drop, length-drop}
 use Rattle.std.proofs.lemmas.List.{length-take, take-take, drop-take}
 use Rattle.nor_device.specs.declared.step.Step.{Step}
 use Rattle.nor_device.specs.declared.step.Step.TheVariants.{Erase, Program}
 use Rattle.nor_device.specs.declared.nor.StepEnd.{StepEnd}
 use Rattle.nor_device.specs.declared.nor.NorFault.{NorFault}
 use Rattle.nor_device.specs.declared.nor.Ready.{Ready}
-use Rattle.nor_device.specs.Flash.{start_of, len_of, end_of, applied, changed_byte, IsInOnePage}
+use Rattle.nor_device.specs.Flash.{start_of, len_of, end_of, applied, changed_byte}
 use Rattle.nor_device.specs.Torn.{IsTornByte, Torn}
-use Rattle.nor_device.specs.Nor.{IsAfter, IsTornBy, MayMissStep, IsLeftTorn, one_more, end_by, part_of}
-use Rattle.nor_device.proofs.TornLaws.{torn_applied, torn_untouched}
-use Rattle.crash_images.specs.Tear.{masked, torn_part, torn_by, is_erase}
-use Rattle.crash_images.specs.TearLaws.{tear_is_torn, applied_masked, torn_masked, applied_nothing, applied_more, applied_erased, length_masked}
-use Rattle.crash_images.specs.Outside.{StaysOutside, outside_torn, torn_outside, outside_wider, outside_twice}
-use Rattle.crash_images.specs.Cut.{MayRefuse, TearLeaves, IsTornByNumber, CutMayEnd}
+use Rattle.nor_device.specs.Nor.{IsLeftTorn, one_more, end_by, part_of}
+use Rattle.nor_device.specs.Make.{IsAfter, IsTornBy, IsMissed}
+use Rattle.nor_device.proofs.Missed.{missed_allowed}
+use Rattle.nor_device.proofs.TornLaws.{torn_applied}
+use Rattle.crash_images.specs.Tear.{with_mask_bits, torn_part, torn_by, is_erase}
+use Rattle.crash_images.proofs.TearLaws.{tear_is_torn, applied_masked, torn_masked, applied_nothing, applied_more, applied_erased, length_with_mask_bits}
+use Rattle.crash_images.specs.Agrees.{ChangesWithin, StaysOutside}
+use Rattle.crash_images.proofs.AgreesLaws.{torn_within, within_wider, within_twice}
+use Rattle.crash_images.specs.TearStep.{MayRefuse, TearLeaves, IsTornByNumber}
+use Rattle.crash_images.specs.Cut.{CutMayEnd}
 use Rattle.crash_images.specs.declared.cut.CutSetting.{CutSetting}
 
--- a program with the masked data leaves what the tear number names
+-- a program with the bits of the masks set in its data leaves what the tear number names
 pub program_torn : (at tear : ℕ) (page bytes : List ℕ) (old new : Option (List ℕ))
-    → bytes ≡ masked tear 0 page → IsAfter (Program at bytes) old new
+    → bytes ≡ with_mask_bits tear 0 page → IsAfter (Program at bytes) old new
     → IsTornByNumber (Program at page) tear old new
 program_torn at tear page bytes None new is after = tt
 program_torn at tear page bytes (Some flash) new is after = after
@@ -27,7 +31,7 @@ program_torn at tear page bytes (Some flash) new is after = after
 
 -- where it is refused, it leaves the program torn
 pub program_refused : (at tear : ℕ) (page bytes : List ℕ) (old new : Option (List ℕ))
-    → bytes ≡ masked tear 0 page → IsTornBy (Program at bytes) old new
+    → bytes ≡ with_mask_bits tear 0 page → IsTornBy (Program at bytes) old new
     → IsTornBy (Program at page) old new
 program_refused at tear page bytes None new is torn = tt
 program_refused at tear page bytes (Some flash) new is torn = (
@@ -38,25 +42,32 @@ program_refused at tear page bytes (Some flash) new is torn = (
 )
 
 -- a step that was missed shows that the setting allows a refusal
-pub missed : {S : Type 0} (may_end : S → ℕ → StepEnd → Type 0)
-    (may_refuse : S → ℕ → NorFault → Type 0) (old mid : S) (steps : ℕ)
-    (r : Result (Unit {0}) NorFault) → mid ≡ old
-    → IfErr r (MayMissStep may_end may_refuse mid steps)
-    → OnErr r (MayRefuse may_end may_refuse old)
-missed may_end may_refuse old mid steps (Ok x) same allowed = allowed
-missed may_end may_refuse old mid steps (Err why) same (inl refused) =
-    (steps, why, inl (subst (λ s. may_refuse s steps why) same refused))
-missed may_end may_refuse old mid steps (Err why) same (inr ended) =
-    (one_more steps, why, inr (subst (λ s. may_end s (one_more steps) (end_by why)) same ended))
-
--- the same where the refusal is known
 pub missed_by : {S : Type 0} (may_end : S → ℕ → StepEnd → Type 0)
-    (may_refuse : S → ℕ → NorFault → Type 0) (old mid : S) (steps : ℕ) (why : NorFault) → mid ≡ old
-    → MayMissStep may_end may_refuse mid steps why → MayRefuse may_end may_refuse old
-missed_by may_end may_refuse old mid steps why same (inl refused) =
-    (steps, why, inl (subst (λ s. may_refuse s steps why) same refused))
-missed_by may_end may_refuse old mid steps why same (inr ended) =
-    (one_more steps, why, inr (subst (λ s. may_end s (one_more steps) (end_by why)) same ended))
+    (may_tear : S → ℕ → List ℕ → Step → List ℕ → Type 0)
+    (may_refuse : S → ℕ → NorFault → Type 0) (must_refuse : S → ℕ → Type 0) (old mid : S)
+    (step : Step) (count now : ℕ) (told left : Option (List ℕ)) (why : NorFault) → mid ≡ old
+    → IsMissed may_end may_tear may_refuse must_refuse mid step count now told left why
+    → MayRefuse may_end may_refuse old
+missed_by may_end may_tear may_refuse must_refuse old mid step count now told left why same missed =
+    elim (missed_allowed may_end may_tear may_refuse must_refuse mid step count now told left why
+    missed) [
+      | inl refused ↦ (count, why, inl (subst (λ s. may_refuse s count why) same refused))
+      | inr ended ↦
+          (one_more count, why, inr (subst (λ s. may_end s (one_more count) (end_by why)) same ended))
+    ]
+
+-- the same of an answer
+pub missed : {S : Type 0} (may_end : S → ℕ → StepEnd → Type 0)
+    (may_tear : S → ℕ → List ℕ → Step → List ℕ → Type 0)
+    (may_refuse : S → ℕ → NorFault → Type 0) (must_refuse : S → ℕ → Type 0) (setting : S)
+    (step : Step) (count now : ℕ) (told left : Option (List ℕ)) (r : Result (Unit {0}) NorFault)
+    → IfErr r (IsMissed may_end may_tear may_refuse must_refuse setting step count now told left)
+    → OnErr r (MayRefuse may_end may_refuse setting)
+missed may_end may_tear may_refuse must_refuse setting step count now told left (Ok x) allowed =
+    allowed
+missed may_end may_tear may_refuse must_refuse setting step count now told left (Err why) allowed =
+    missed_by may_end may_tear may_refuse must_refuse setting setting step count now told left why
+    refl allowed
 
 -- nothing was put back yet
 pub put_none : (at : ℕ) (told : Option (List ℕ)) → IsAfter (Program at []) told told
@@ -81,8 +92,8 @@ put_outside at end bytes (Some flash) new long after =
     let step = Program at bytes in (
       applied flash step,
       after,
-      outside_wider at (at + length bytes) at end flash (applied flash step) (omega arith) long
-          (outside_torn flash (applied flash step) step (torn_applied flash step)),
+      within_wider at (at + length bytes) at end flash (applied flash step) (omega arith) long
+          (torn_within flash (applied flash step) step (torn_applied flash step)),
     )
 
 -- and where a page was refused, too
@@ -95,9 +106,9 @@ put_refused at end next page (Some flash) mid new low high one two =
     let torn = subst (λ (m : Option (List ℕ)). IsTornBy step m new) one.1 two in (
       torn.0,
       torn.1,
-      outside_twice at end flash one.0 torn.0 one.2
-          (outside_wider next (next + length page) at end one.0 torn.0 low high
-          (outside_torn one.0 torn.0 step torn.2)),
+      within_twice at end flash one.0 torn.0 one.2
+          (within_wider next (next + length page) at end one.0 torn.0 low high
+          (torn_within one.0 torn.0 step torn.2)),
     )
 
 -- the front and the next page are a longer front
@@ -135,31 +146,39 @@ page_refused at done part old mid new inside one two =
     (put_outside at (at + length part) (take done part) old mid front one) two
 
 -- an erase may leave any byte
-pub erases_any : (erase : Step) → is_erase erase ≡ true → (k a b : ℕ) → IsTornByte erase k a b
-erases_any (Erase sector) erases k a b = tt
-erases_any (Program at page) erases k a b = absurd (cc erases)
+erases_any : (erase : Step) → is_erase erase ≡ true → (k a b : ℕ) → (a < 256 → b < 256)
+    → IsTornByte erase k a b
+erases_any (Erase sector) erases k a b small = small
+erases_any (Program at page) erases k a b small = absurd (cc erases)
+
+-- what has changed only the range of an erase may be left of it
+within_torn : (erase : Step) → is_erase erase ≡ true → (flash left : List ℕ)
+    → ChangesWithin (start_of erase) (end_of erase) flash left → Torn flash erase left
+within_torn erase erases flash left within = record {
+  same_length = within.same.same_length;
+  byte = λ i inside. record {
+    outside = λ out. within.same.byte i inside out;
+    inside = λ from to. erases_any erase erases (i - start_of erase) (slice_index flash i)
+        (slice_index left i) (within.small i inside);
+  };
+}
 
 -- it sets each byte to 0xFF
 erases_ones : (erase : Step) → is_erase erase ≡ true → (k b : ℕ) → changed_byte erase k b ≡ 255
 erases_ones (Erase sector) erases k b = refl
 erases_ones (Program at page) erases k b = absurd (cc erases)
 
--- and a tear number leaves the masked bytes
+-- and a tear number leaves the bytes with the bits of their masks set
 erases_part : (erase : Step) → is_erase erase ≡ true → (tear : ℕ) (part : List ℕ)
-    → torn_part erase tear part ≡ masked tear 0 part
+    → torn_part erase tear part ≡ with_mask_bits tear 0 part
 erases_part (Erase sector) erases tear part = refl
 erases_part (Program at page) erases tear part = absurd (cc erases)
 
--- it has no page to keep to
-pub erases_paged : (erase : Step) → is_erase erase ≡ true → IsInOnePage erase
-erases_paged (Erase sector) erases = tt
-erases_paged (Program at page) erases = absurd (cc erases)
-
--- the erase, and the masked bytes put back over it, are the erase torn by the number
+-- the erase, and the bytes with their mask bits put back over it, are the erase torn by the number
 pub erase_torn : (erase : Step) → is_erase erase ≡ true
     → (at tear len : ℕ) (bytes masks : List ℕ) (old same mid new : Option (List ℕ))
     → at ≡ start_of erase → len ≡ len_of erase
-    → IfSome old (λ flash. bytes ≡ part_of flash at len) → masks ≡ masked tear 0 bytes
+    → IfSome old (λ flash. bytes ≡ part_of flash at len) → masks ≡ with_mask_bits tear 0 bytes
     → ((k : ℕ) → get_or masks k 0 < 256)
     → ((flash : List ℕ) → old ≡ Some flash → end_of erase ≤ length flash)
     → same ≡ old → IsAfter erase same mid → IsAfter (Program at masks) mid new
@@ -174,14 +193,14 @@ erase_torn erase erases at tear len bytes masks
     let two_on = subst (λ (m : Option (List ℕ)). IsAfter (Program at masks) m new) one_on two in
     let bytes_are : bytes ≡ part = read ∙ ap (λ (n : ℕ). take n (drop at flash)) len_is
     ∙ ap (λ (n : ℕ). take (len_of erase) (drop n flash)) at_is in
-    let masks_are : masks ≡ torn_part erase tear part = mask ∙ ap (masked tear 0) bytes_are
+    let masks_are : masks ≡ torn_part erase tear part = mask ∙ ap (with_mask_bits tear 0) bytes_are
     ∙ sym (erases_part erase erases tear part) in
     let room = inside flash refl in
     let part_len : length part ≡ len_of erase =
     omega (arith, room, length-take (len_of erase) (drop start flash), length-drop start flash)
     in
     let long : length masks ≡ len_of erase = ap length masks_are
-    ∙ ap length (erases_part erase erases tear part) ∙ length_masked tear 0 part ∙ part_len in
+    ∙ ap length (erases_part erase erases tear part) ∙ length_with_mask_bits tear 0 part ∙ part_len in
     two_on
     ∙ ap (λ (n : ℕ). Some (applied (applied flash erase) (Program n masks))) at_is
     ∙ ap Some (applied_erased flash erase (erases_ones erase erases) masks long room small)
@@ -196,21 +215,17 @@ erase_refused erase erases at len None same mid new at_is len_is is one two = tt
 erase_refused erase erases at len (Some flash) same mid new at_is len_is is one two =
     let one_on = subst (λ (m : Option (List ℕ)). IsAfter erase m mid) is one in
     let two_on = subst (λ (m : Option (List ℕ)). StaysOutside at (at + len) m new) one_on two in
-    let first = outside_torn flash (applied flash erase) erase (torn_applied flash erase) in
+    let first = torn_within flash (applied flash erase) erase (torn_applied flash erase) in
     let low : start_of erase ≤ at = omega arith in
     let high : at + len ≤ end_of erase = omega arith in
-    let second = outside_wider at (at + len) (start_of erase) (end_of erase)
+    let second = within_wider at (at + len) (start_of erase) (end_of erase)
     (applied flash erase) two_on.0 low high two_on.2 in (
       two_on.0,
       two_on.1,
-      torn_outside erase (erases_any erase erases) flash two_on.0
-          (outside_twice (start_of erase) (end_of erase) flash
+      within_torn erase erases flash two_on.0
+          (within_twice (start_of erase) (end_of erase) flash
           (applied flash erase) two_on.0 first second),
     )
-
--- an untouched flash is torn of itself
-pub untouched : (step : Step) (old same : Option (List ℕ)) → same ≡ old → IsTornBy step old same
-untouched step old same is = torn_untouched step old same is
 
 -- what a step leaves is the same from told bytes that are the same
 pub refused_on : (step : Step) (old same new : Option (List ℕ)) → same ≡ old

@@ -1,16 +1,15 @@
 -- The device whose power goes off, or which fails, in a step of a chosen number.
-use Rattle.std.specs.Prelude.{◌≡◌, ◌⊎◌, ℕ, ◌<◌, ◌≤◌, ◌^◌, nat_lt, if◌then◌else◌, Bool, true, false, List, Option, Some, None, IfSome}
+use Rattle.std.specs.Prelude.{◌≡◌, ◌⊎◌, ℕ, ◌<◌, nat_lt, if◌then◌else◌, Bool, true, false, List, Option, Some, None}
 use Rattle.nor_device.specs.declared.step.Step.{Step}
 use Rattle.nor_device.specs.declared.nor.StepEnd.{StepEnd}
 use Rattle.nor_device.specs.declared.nor.StepEnd.TheVariants as ends
 use Rattle.nor_device.specs.declared.nor.NorFault.{NorFault}
 use Rattle.nor_device.specs.declared.nor.NorFault.TheVariants as faults
-use Rattle.nor_device.specs.Flash.{end_of, IsInOnePage}
 use Rattle.nor_device.specs.Nor.{end_by}
 use Rattle.crash_images.specs.declared.cut.Health.{Health}
 use Rattle.crash_images.specs.declared.cut.Health.TheVariants.{Sound, Due, Off, Failed}
 use Rattle.crash_images.specs.declared.cut.CutSetting.{CutSetting}
-use Rattle.crash_images.specs.Tear.{torn_by}
+use Rattle.crash_images.specs.TearStep.{MayStart, MayRefuse, TearLeaves}
 
 -- what a contract sees of it: the device inside, the step in which the power goes off, the tear number, the step that
 -- fails, the number of steps begun, the faults that it gave by itself, and how it is
@@ -35,7 +34,7 @@ cut_device inner cut tear fail steps faults health = record {
   health = health;
 }
 
--- a chosen number is still to come behind this one
+-- a chosen number is still to come after this one
 abbrev pub IsAhead : Option ℕ → ℕ → Type 0
 IsAhead None n = Unit {0}
 IsAhead (Some chosen) n = n < chosen
@@ -82,28 +81,16 @@ off_by Sound inner = inner
 off_by (Due step) inner = inner
 off_by Failed inner = inner
 
--- how the device is behind a step that was refused so
+-- how the device is after a step that was refused so
 abbrev pub health_by : NorFault → Health
 health_by faults.Off = Off
 health_by faults.Failed = Failed
-
--- a device of this setting may refuse a call
-abbrev pub MayRefuse : {S : Type 0} → (S → ℕ → StepEnd → Type 0) → (S → ℕ → NorFault → Type 0) → S
-    → Type 0
-MayRefuse may_end may_refuse setting =
-    (n : ℕ) × (why : NorFault) × (may_refuse setting n why ⊎ may_end setting n (end_by why))
 
 -- how the step of this number ends by the choice: whole before the chosen one, and then no more
 abbrev pub EndsBy : Option ℕ → Option ℕ → ℕ → StepEnd → Type 0
 EndsBy cut fail n ends.Done = IsAhead cut n × IsAhead fail n
 EndsBy cut fail n ends.Cut = cut ≡ Some n
 EndsBy cut fail n ends.Failed = fail ≡ Some n
-
--- tearing a step leaves the flash that the tear number names, or any torn one where the device may refuse a call
-abbrev pub TearLeaves : {S : Type 0} → (S → ℕ → StepEnd → Type 0) → (S → ℕ → NorFault → Type 0) → S
-    → ℕ → List ℕ → Step → List ℕ → Type 0
-TearLeaves may_end may_refuse setting tear flash step left =
-    (left ≡ torn_by flash step tear) ⊎ MayRefuse may_end may_refuse setting
 
 module _ {S : Type 0} (may_end : S → ℕ → StepEnd → Type 0)
     (may_refuse : S → ℕ → NorFault → Type 0) where
@@ -122,17 +109,10 @@ module _ {S : Type 0} (may_end : S → ℕ → StepEnd → Type 0)
   CutMayRefuse set n why =
       EndsBy set.cut set.fail n (end_by why) ⊎ MayRefuse may_end may_refuse set.inner
 
--- where the device tells its bytes, they are those that the tear number names
-abbrev pub IsTornByNumber : Step → ℕ → Option (List ℕ) → Option (List ℕ) → Type 0
-IsTornByNumber step tear old new = IfSome old (λ flash. new ≡ Some (torn_by flash step tear))
-
--- a step is due to be torn: it lies inside, its number is the chosen one, and inside no step runs
+-- a step is due to be torn: it may be started inside, and its number is the chosen one
 pub record IsDue {D : Type 0} (running : D → Option Step) (size : D → ℕ) (device : CutDevice D)
     (step : Step) : Type 0 where
-  pub idle : running device.inner ≡ None
-  pub paged : IsInOnePage step
-  pub small : end_of step ≤ 2 ^ 32
-  pub inside : end_of step ≤ size device.inner
+  pub start : MayStart running size device.inner step
   pub bad : IsBad device.cut device.fail device.steps
 
 module _ {D S : Type 0} (running : D → Option Step) (size : D → ℕ) (off : D → Bool)

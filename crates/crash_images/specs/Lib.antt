@@ -1,7 +1,5 @@
 pub mod Tear
-pub mod Left
-pub mod TearLaws
-pub mod LeftLaws
-pub mod Outside
+pub mod TearStep
+pub mod Crash
+pub mod Agrees
 pub mod Cut
-pub mod CutLaws

@@ -32,14 +32,14 @@ torn_byte_of old new erase tear i =
     if erase then bit_or old (mask_at tear i) else bit_and old (bit_or new (mask_at tear i))
 
 -- the bytes, from the i-th on, with the bits of their masks set
-abbrev pub masked : ℕ → ℕ → List ℕ → List ℕ
-masked tear i [] = []
-masked tear i (byte ∷ bytes) = bit_or byte (mask_at tear i) ∷ masked tear (i + 1) bytes
+abbrev pub with_mask_bits : ℕ → ℕ → List ℕ → List ℕ
+with_mask_bits tear i [] = []
+with_mask_bits tear i (byte ∷ bytes) = bit_or byte (mask_at tear i) ∷ with_mask_bits tear (i + 1) bytes
 
 -- what is left of the bytes in the step's range
 abbrev pub torn_part : Step → ℕ → List ℕ → List ℕ
-torn_part (Erase sector) tear part = masked tear 0 part
-torn_part (Program at page) tear part = anded part (masked tear 0 page)
+torn_part (Erase sector) tear part = with_mask_bits tear 0 part
+torn_part (Program at page) tear part = anded part (with_mask_bits tear 0 page)
 
 -- what is left of the flash: its range is torn by the number, and all else is as before
 abbrev pub torn_by : List ℕ → Step → ℕ → List ℕ

@@ -25,7 +25,7 @@ pub trait Crash: Nor {
 }
 
 impl Crash for RamNor {
-    ghost use Rattle.crash_images.specs.Left.{MayLeave, idle_leaves, running_leaves};
+    ghost use Rattle.crash_images.specs.Crash.{MayLeave, idle_leaves, running_leaves};
 
     ghost may_leave = { λ d left. MayLeave (Self.bytes d) (Self.running d) left };
 

@@ -5,7 +5,7 @@ ghost use Rattle.nor_device.specs.Nor.{one_more};
 ghost use Rattle.crash_images.specs.Cut.{cut_device, IsAhead, NotBoth, IsBad, running_by, left_by, restarted, unspent_of, health_by};
 
 use crate::crash::Crash;
-use crate::tear::tear_step;
+use crate::tear_step::tear_step;
 use nor_device::{Nor, NorFault, Ready, Step};
 use std::marker::Model;
 
@@ -64,7 +64,7 @@ impl<D: Nor> CutNor<D> {
         requires one { NotBoth cut fail }
         requires cut { IsAhead cut 0 }
         requires fail { IsAhead fail 0 }
-        ensures { result ≡ cut_device inner cut tear fail 0 0 Health.Sound }
+        ensures exact { result ≡ cut_device inner cut tear fail 0 0 Health.Sound }
     {
         CutNor {
             inner,
@@ -82,7 +82,7 @@ impl<D: Nor> CutNor<D> {
     pub fn restart(self) -> CutNor<D>
         requires idle { running_by self.health (D.running self.inner) ≡ None }
         requires on { D.off self.inner ≡ false }
-        ensures { result ≡ restarted self }
+        ensures exact { result ≡ restarted self }
     {
         CutNor {
             cut: unspent(self.cut, self.steps),
@@ -97,14 +97,14 @@ impl<D: Nor> CutNor<D> {
 
     /// How many steps were begun.
     pub fn steps(&self) -> u64
-        ensures { result ≡ self.now.steps }
+        ensures exact { result ≡ self.now.steps }
     {
         self.steps
     }
 
     /// How often the device failed by itself, beside the failures of the one inside.
     pub fn faults(&self) -> u64
-        ensures { result ≡ self.now.faults }
+        ensures exact { result ≡ self.now.faults }
     {
         self.faults
     }
@@ -121,7 +121,7 @@ impl<D: Nor> CutNor<D> {
     /// Gives the device inside back.
     pub fn into_inner(self) -> D
         requires { running_by self.health (D.running self.inner) ≡ None }
-        ensures { result ≡ self.inner }
+        ensures exact { result ≡ self.inner }
     {
         let CutNor {
             inner,
@@ -136,9 +136,9 @@ impl<D: Nor> CutNor<D> {
     }
 }
 
-// A chosen number, as long as it is still to come.
+/// A chosen number, as long as it is still to come.
 fn unspent(chosen: Option<u64>, steps: u64) -> Option<u64>
-    ensures { result ≡ unspent_of chosen steps }
+    ensures exact { result ≡ unspent_of chosen steps }
 {
     match chosen {
         Some(number) if steps < number => Some(number),
@@ -207,7 +207,7 @@ impl<D: Nor> Nor for CutNor<D> {
         if begun.is_ok() {
             self.steps = number;
             if due {
-                self.health = Health::Due(step.again());
+                self.health = Health::Due(step.copy());
             }
         }
         begun
@@ -216,13 +216,13 @@ impl<D: Nor> Nor for CutNor<D> {
     fn poll(&mut self) -> Result<Ready, NorFault> {
         match &self.health {
             Health::Sound => self.inner.poll(),
-            // No step runs behind the one that ended badly.
+            // No step runs after the one that ended badly.
             Health::Off | Health::Failed => unreachable!(),
             Health::Due(step) => {
                 let torn = tear_step(&mut self.inner, step, self.tear);
                 let cut = self.cut == Some(self.steps);
                 let why = refusal(torn, cut, &mut self.faults);
-                self.health = health_behind(why);
+                self.health = health_after(why);
                 Err(why)
             }
         }
@@ -230,7 +230,7 @@ impl<D: Nor> Nor for CutNor<D> {
 }
 
 impl<D: Nor> Crash for CutNor<D> {
-    ghost use Rattle.crash_images.specs.Left.{MayLeave, idle_leaves, running_leaves};
+    ghost use Rattle.crash_images.specs.Crash.{MayLeave, idle_leaves, running_leaves};
 
     ghost may_leave = { λ d left. MayLeave (Self.bytes d) (Self.running d) left };
 
@@ -239,7 +239,7 @@ impl<D: Nor> Crash for CutNor<D> {
     ghost torn_leaves = { λ d. running_leaves (Self.bytes d) (Self.running d) };
 }
 
-// What the first poll of a step that is due answers: what the device inside did, else as was chosen.
+/// What the first poll of a step that is due answers: what the device inside did, else as was chosen.
 fn refusal(torn: Result<(), NorFault>, cut: bool, faults: &mut u64) -> NorFault
     ensures inside { IfErr torn (λ why. (result ≡ why) × (faults.new ≡ faults.old)) }
     ensures off { OnOk torn (cut ≡ true → (result ≡ NorFault.Off) × (faults.new ≡ faults.old)) }
@@ -253,9 +253,9 @@ fn refusal(torn: Result<(), NorFault>, cut: bool, faults: &mut u64) -> NorFault
     }
 }
 
-// How the device is behind a step that was refused so.
-fn health_behind(why: NorFault) -> Health
-    ensures { result ≡ health_by why }
+/// How the device is after a step that was refused so.
+fn health_after(why: NorFault) -> Health
+    ensures exact { result ≡ health_by why }
 {
     match why {
         NorFault::Off => Health::Off,
@@ -263,7 +263,7 @@ fn health_behind(why: NorFault) -> Health
     }
 }
 
-// One failure more.
+/// One failure more.
 fn count_fault(faults: &mut u64) -> NorFault
     ensures counted { faults.new ≡ one_more faults.old }
     ensures answer { result ≡ NorFault.Failed }

@@ -9,7 +9,7 @@ ghost use Rattle.nor_device.specs.Torn.{Torn};
 ghost use Rattle.nor_device.specs.Nor.{end_by};
 ghost use Rattle.crash_images.specs.declared.cut.CutSetting.{CutSetting};
 ghost use Rattle.crash_images.specs.Tear.{torn_by, torn_byte_of, data_byte_of, is_erase};
-ghost use Rattle.crash_images.specs.Left.{LeftAfter};
+ghost use Rattle.crash_images.specs.Crash.{LeftAfter};
 ghost use Rattle.crash_images.specs.Cut.{EndsBy, IsBad, NotBoth};
 
 use crate::crash::Crash;
@@ -58,7 +58,7 @@ pub fn power_loss_leaves<D: Crash>(device: &D)
 }
 
 /// The setting of a `CutNor` over a `RamNor`: each step number has one end up to the chosen one, and none
-/// behind it; a refused poll leaves the flash of the tear number; a read or start is refused behind the
+/// after it; a refused poll leaves the flash of the tear number; a read or start is refused after the
 /// chosen step alone, and so as that step was.
 pub fn setting_of_cut_nor_over_ram_nor()
     ensures ends { (set : CutSetting (Unit {0})) (n : ℕ) (end : StepEnd)
@@ -72,10 +72,10 @@ pub fn setting_of_cut_nor_over_ram_nor()
         → ⟦<CutNor<RamNor> as Nor>⟧.must_refuse set n ↔ IsBad set.cut set.fail n }
 {}
 
-/// Where at most one step is chosen, no step number has two ends, and none behind the chosen one has any.
+/// Where at most one step is chosen, no step number has two ends, and none after the chosen one has any.
 pub fn laws_of_chosen_steps()
     ensures one { (cut fail : Option ℕ) (n : ℕ) (end other : StepEnd)
         → NotBoth cut fail → EndsBy cut fail n end → EndsBy cut fail n other → end ≡ other }
-    ensures last { (cut fail : Option ℕ) (n behind : ℕ) (end : StepEnd)
-        → NotBoth cut fail → IsBad cut fail n → n < behind → ¬ EndsBy cut fail behind end }
+    ensures last { (cut fail : Option ℕ) (n later : ℕ) (end : StepEnd)
+        → NotBoth cut fail → IsBad cut fail n → n < later → ¬ EndsBy cut fail later end }
 {}

@@ -5,7 +5,7 @@ mod crash;
 mod cut;
 mod laws;
 mod tear;
-mod torn;
+mod tear_step;
 
 pub use crash::Crash;
 pub use cut::{CutNor, CutSetting, Health};
@@ -13,7 +13,7 @@ pub use laws::{
     laws_of_chosen_steps, laws_of_power_loss, laws_of_tear_numbers, power_loss_leaves,
     setting_of_cut_nor_over_ram_nor,
 };
-pub use torn::torn_byte;
+pub use tear::torn_byte;
 
 #[cfg(test)]
 mod tests;

@@ -1,177 +1,44 @@
-//! A step that is cut short is made on the device by steps: a program with the bits of the mask left in
-//! its data, and an erase that is followed by programs of the bytes with the bits of the mask set.
+//! The tear number: which of the torn flashes the program's own device leaves.
 
-ghost use Rattle.std.specs.Prelude.{◌≡◌, ℕ, ◌+◌, ◌*◌, ◌%◌, ◌<◌, ◌≤◌, ◌^◌, true, None, Some, OnOk, OnErr, length, slice_index};
-ghost use Rattle.nor_device.specs.declared.step.Step.TheVariants.{Erase, Program};
-ghost use Rattle.nor_device.specs.Flash.{start_of, len_of, end_of, IsInOnePage, IsPageLength};
-ghost use Rattle.nor_device.specs.Nor.{HasCause, KeepsSetting, IsAfter, IsTornBy, IsLeftTorn};
-ghost use Rattle.crash_images.specs.Tear.{masked, is_erase};
-ghost use Rattle.crash_images.specs.Outside.{StaysOutside};
-ghost use Rattle.crash_images.specs.Cut.{MayRefuse, TearLeaves, IsTornByNumber};
+ghost use Rattle.std.specs.Prelude.{◌≡◌};
+ghost use Rattle.crash_images.specs.Tear.{mask_at, torn_byte_of, with_mask_bits};
 
-use crate::torn::mask_each;
-use nor_device::{Nor, NorFault, PAGE_SIZE, Page, SECTOR_SIZE, Step, make_step};
-
-// Makes what the tear number leaves of the step, or tears it where the device refuses a call.
-pub(crate) fn tear_step<D: Nor>(inner: &mut D, step: &Step, tear: u64) -> Result<(), NorFault>
-    requires idle { D.running inner.old ≡ None }
-    requires paged { IsInOnePage step.now }
-    requires small { end_of step.now ≤ 2 ^ 32 }
-    requires inside { end_of step.now ≤ D.size inner.old }
-    ensures idle { D.running inner.new ≡ None }
-    ensures left { IsLeftTorn (TearLeaves D.may_end D.may_refuse (D.setting inner.old) tear)
-        (Some step.now) (D.bytes inner.old) (D.bytes inner.new) }
-    ensures allowed { OnErr result (MayRefuse D.may_end D.may_refuse (D.setting inner.old)) }
-    ensures setting { KeepsSetting D.size D.setting inner.old inner.new }
-    ensures cause { HasCause (D.faults inner.old) (D.faults inner.new) (D.off inner.new) result }
+/// The byte that is left of `old`, the `i`-th of the range of a step that was cut short.
+///
+/// Bits 0 to 7 of the tear number are the mask in its window, bits 8 to 15 the mask elsewhere; the
+/// window begins at bits 16 to 31 and ends before bits 32 to 47. An erase leaves `old | mask`, and a
+/// program of `new` leaves `old & (new | mask)`: tear 0 leaves an erase undone and a program done, and
+/// 0xFFFF the contrary.
+pub fn torn_byte(old: u8, new: u8, erase: bool, tear: u64, i: u32) -> u8
+    ensures exact { result ≡ torn_byte_of old new erase tear i }
 {
-    tear_by_kind(inner, step, tear)
-}
-
-// Makes what the tear number leaves of the step.
-fn tear_by_kind<D: Nor>(inner: &mut D, step: &Step, tear: u64) -> Result<(), NorFault>
-    requires idle { D.running inner.old ≡ None }
-    requires paged { IsInOnePage step.now }
-    requires small { end_of step.now ≤ 2 ^ 32 }
-    requires inside { end_of step.now ≤ D.size inner.old }
-    ensures idle { D.running inner.new ≡ None }
-    ensures torn { OnOk result (IsTornByNumber step.now tear (D.bytes inner.old) (D.bytes inner.new)) }
-    ensures refused { OnErr result (IsTornBy step.now (D.bytes inner.old) (D.bytes inner.new)) }
-    ensures allowed { OnErr result (MayRefuse D.may_end D.may_refuse (D.setting inner.old)) }
-    ensures setting { KeepsSetting D.size D.setting inner.old inner.new }
-    ensures cause { HasCause (D.faults inner.old) (D.faults inner.new) (D.off inner.new) result }
-{
-    match step {
-        Step::Erase { sector } => tear_erase(inner, *sector, tear),
-        Step::Program { at, bytes } => tear_program(inner, *at, bytes, tear),
+    let mask = mask_at(tear, i as u64);
+    if erase {
+        old | mask
+    } else {
+        old & (new | mask)
     }
 }
 
-// Makes what the tear number leaves of a program.
-fn tear_program<D: Nor>(inner: &mut D, at: u32, page: &Page, tear: u64) -> Result<(), NorFault>
-    requires idle { D.running inner.old ≡ None }
-    requires paged { at % 256 + length page.now ≤ 256 }
-    requires small { at + length page.now ≤ 2 ^ 32 }
-    requires inside { at + length page.now ≤ D.size inner.old }
-    ensures idle { D.running inner.new ≡ None }
-    ensures torn { OnOk result
-        (IsTornByNumber (Program at page.now) tear (D.bytes inner.old) (D.bytes inner.new)) }
-    ensures refused { OnErr result
-        (IsTornBy (Program at page.now) (D.bytes inner.old) (D.bytes inner.new)) }
-    ensures allowed { OnErr result (MayRefuse D.may_end D.may_refuse (D.setting inner.old)) }
-    ensures setting { KeepsSetting D.size D.setting inner.old inner.new }
-    ensures cause { HasCause (D.faults inner.old) (D.faults inner.new) (D.off inner.new) result }
+/// The mask of the i-th byte of the range.
+fn mask_at(tear: u64, i: u64) -> u8
+    ensures exact { result ≡ mask_at tear i }
 {
-    let bytes = masked_page(page, tear);
-    make_step(inner, &Step::Program { at, bytes })
-}
-
-// The page with the bits of the masks set.
-fn masked_page(page: &Page, tear: u64) -> Page
-    ensures masked { result ≡ masked tear 0 page.now }
-    ensures length { length result ≡ length page.now }
-{
-    let bytes = page.bytes();
-    let mut buffer = [0; PAGE_SIZE];
-    let part = &mut buffer[..bytes.len()];
-    part.copy_from_slice(bytes);
-    mask_each(part, tear);
-    let Some(page) = Page::of(part) else {
-        unreachable!();
-    };
-    page
-}
-
-// Makes what the tear number leaves of the erase of a sector.
-fn tear_erase<D: Nor>(inner: &mut D, sector: u32, tear: u64) -> Result<(), NorFault>
-    requires idle { D.running inner.old ≡ None }
-    requires small { end_of (Erase sector) ≤ 2 ^ 32 }
-    requires inside { end_of (Erase sector) ≤ D.size inner.old }
-    ensures idle { D.running inner.new ≡ None }
-    ensures torn { OnOk result
-        (IsTornByNumber (Erase sector) tear (D.bytes inner.old) (D.bytes inner.new)) }
-    ensures refused { OnErr result (IsTornBy (Erase sector) (D.bytes inner.old) (D.bytes inner.new)) }
-    ensures allowed { OnErr result (MayRefuse D.may_end D.may_refuse (D.setting inner.old)) }
-    ensures setting { KeepsSetting D.size D.setting inner.old inner.new }
-    ensures cause { HasCause (D.faults inner.old) (D.faults inner.new) (D.off inner.new) result }
-{
-    let mut part = [0; 4096];
-    tear_range(
-        inner,
-        &Step::Erase { sector },
-        sector * SECTOR_SIZE,
-        &mut part,
-        tear,
-    )
-}
-
-// Makes what the tear number leaves of an erase of the range from `at` on, with room for its bytes.
-fn tear_range<D: Nor>(
-    inner: &mut D,
-    erase: &Step,
-    at: u32,
-    part: &mut [u8],
-    tear: u64,
-) -> Result<(), NorFault>
-    requires erases { is_erase erase.now ≡ true }
-    requires range { (at ≡ start_of erase.now) × (length part.old ≡ len_of erase.now) }
-    requires pages { (at % 256 ≡ 0) × (length part.old % 256 ≡ 0) }
-    requires some { 1 ≤ length part.old }
-    requires idle { D.running inner.old ≡ None }
-    requires small { end_of erase.now ≤ 2 ^ 32 }
-    requires inside { end_of erase.now ≤ D.size inner.old }
-    ensures idle { D.running inner.new ≡ None }
-    ensures torn { OnOk result (IsTornByNumber erase.now tear (D.bytes inner.old) (D.bytes inner.new)) }
-    ensures refused { OnErr result (IsTornBy erase.now (D.bytes inner.old) (D.bytes inner.new)) }
-    ensures allowed { OnErr result (MayRefuse D.may_end D.may_refuse (D.setting inner.old)) }
-    ensures setting { KeepsSetting D.size D.setting inner.old inner.new }
-    ensures cause { HasCause (D.faults inner.old) (D.faults inner.new) (D.off inner.new) result }
-{
-    inner.read(at, part)?;
-    mask_each(part, tear);
-    make_step(inner, erase)?;
-    put_back(inner, at, part)
-}
-
-// Programs the bytes from the address on, page by page.
-fn put_back<D: Nor>(inner: &mut D, at: u32, part: &[u8]) -> Result<(), NorFault>
-    requires pages { (at % 256 ≡ 0) × (length part.now % 256 ≡ 0) }
-    requires some { 1 ≤ length part.now }
-    requires idle { D.running inner.old ≡ None }
-    requires small { at + length part.now ≤ 2 ^ 32 }
-    requires inside { at + length part.now ≤ D.size inner.old }
-    ensures idle { D.running inner.new ≡ None }
-    ensures bytes { (k : ℕ) → slice_index part.now k < 256 }
-    ensures put { OnOk result (IsAfter (Program at part.now) (D.bytes inner.old) (D.bytes inner.new)) }
-    ensures refused { OnErr result
-        (StaysOutside at (at + length part.now) (D.bytes inner.old) (D.bytes inner.new)) }
-    ensures allowed { OnErr result (MayRefuse D.may_end D.may_refuse (D.setting inner.old)) }
-    ensures setting { KeepsSetting D.size D.setting inner.old inner.new }
-    ensures cause { HasCause (D.faults inner.old) (D.faults inner.new) (D.off inner.new) result }
-{
-    let mut done = 0;
-    while done < part.len() {
-        put_page(inner, at + done as u32, &part[done..done + PAGE_SIZE])?;
-        done += PAGE_SIZE;
+    let window_start = tear / 65_536 % 65_536;
+    let window_end = tear / 4_294_967_296 % 65_536;
+    let (window_mask, other_mask) = (tear % 256, tear / 256 % 256);
+    if window_start <= i && i < window_end {
+        window_mask as u8
+    } else {
+        other_mask as u8
     }
-    Ok(())
 }
 
-// Programs one page.
-fn put_page<D: Nor>(inner: &mut D, at: u32, bytes: &[u8]) -> Result<(), NorFault>
-    requires page { (at % 256 ≡ 0) × (length bytes.now ≡ 256) }
-    requires idle { D.running inner.old ≡ None }
-    requires small { at + length bytes.now ≤ 2 ^ 32 }
-    requires inside { at + length bytes.now ≤ D.size inner.old }
-    ensures idle { D.running inner.new ≡ None }
-    ensures put { OnOk result (IsAfter (Program at bytes.now) (D.bytes inner.old) (D.bytes inner.new)) }
-    ensures torn { OnErr result (IsTornBy (Program at bytes.now) (D.bytes inner.old) (D.bytes inner.new)) }
-    ensures allowed { OnErr result (MayRefuse D.may_end D.may_refuse (D.setting inner.old)) }
-    ensures setting { KeepsSetting D.size D.setting inner.old inner.new }
-    ensures cause { HasCause (D.faults inner.old) (D.faults inner.new) (D.off inner.new) result }
+/// Sets the bits of its mask in each byte.
+pub(crate) fn set_mask_bits(bytes: &mut [u8], tear: u64)
+    ensures exact { bytes.new ≡ with_mask_bits tear 0 bytes.old }
 {
-    let Some(page) = Page::of(bytes) else {
-        unreachable!();
-    };
-    make_step(inner, &Step::Program { at, bytes: page })
+    for i in 0..bytes.len() {
+        bytes[i] |= mask_at(tear, i as u64);
+    }
 }

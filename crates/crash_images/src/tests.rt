@@ -9,10 +9,10 @@ use std::test::Fail;
 
 const SIZE: usize = 1_048_576;
 
-// A tear number with the mask F0 in the bytes 2 to 5 of the range, and 0F in all others.
+/// A tear number with the mask F0 in the bytes 2 to 5 of the range, and 0F in all others.
 const WINDOW: u64 = 0x0006_0002_0FF0;
 
-// As many bytes of one value.
+/// As many bytes of one value.
 fn filled(alloc: Global, byte: u8, size: usize) -> Result<Vec<u8>, AllocError>
     ensures { IfOk result (λ bytes. length bytes.items ≡ size) }
 {
@@ -51,7 +51,7 @@ fn a_cut_tears_its_step_and_a_restart_reads_it(rt: HostRuntime) -> Result<(), Fa
     assert_eq!(rt;
         device.read(0, &mut byte),
         Err(NorFault::Off),
-        "a read behind it"
+        "a read after it"
     );
     let mut device = device.restart();
     device.read(0, &mut byte)?;
@@ -67,14 +67,14 @@ fn a_failure_is_counted_in_each_call(rt: HostRuntime) -> Result<(), Fail> {
     let mut device = CutNor::new(inner, None, 0, Some(1));
     device.start(&Step::Erase { sector: 0 })?;
     assert_eq!(rt; device.poll(), Err(NorFault::Failed), "the first poll");
-    assert_eq!(rt; device.faults(), 1, "behind the poll");
+    assert_eq!(rt; device.faults(), 1, "after the poll");
     let mut byte = [7];
     assert_eq!(rt;
         device.read(0, &mut byte),
         Err(NorFault::Failed),
-        "a read behind it"
+        "a read after it"
     );
-    assert_eq!(rt; device.faults(), 2, "behind the read");
+    assert_eq!(rt; device.faults(), 2, "after the read");
     Ok(())
 }
 

@@ -92,7 +92,7 @@ byte_applied flash step i inside =
             ∙ ap (λ (b : ℕ). changed_byte step (i - start) b)
             (part_byte flash start len mid same i from to)
             ∙ sym (byte_after_inside step i (get_or flash i 0) from to)
-        | inr behind ↦ spliced_above flash start len mid same i behind inside
-            ∙ sym (byte_after_outside step i (get_or flash i 0) (inr behind))
+        | inr past ↦ spliced_above flash start len mid same i past inside
+            ∙ sym (byte_after_outside step i (get_or flash i 0) (inr past))
       ]
     ]

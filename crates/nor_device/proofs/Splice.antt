@@ -51,10 +51,10 @@ module _ (flash : List ℕ) (start len : ℕ) (mid : List ℕ)
       get_or_append_left (take start flash ++ mid) (drop (start + len) flash) 0 i two
       ∙ get_or-append_right (take start flash) mid start i 0 front from
 
-  -- behind it nothing changed
+  -- after it nothing changed
   pub spliced_above : (i : ℕ) → start + len ≤ i → i < length flash
       → slice_index spliced i ≡ slice_index flash i
-  spliced_above i behind inside =
+  spliced_above i past inside =
       let two : length (take start flash ++ mid) ≡ start + len =
       omega (
         arith,
@@ -66,7 +66,7 @@ module _ (flash : List ℕ) (start len : ℕ) (mid : List ℕ)
       ) in
       let back : start + len + (i - (start + len)) ≡ i = omega arith in
       get_or-append_right (take start flash ++ mid) (drop (start + len) flash)
-      (start + len) i 0 two behind
+      (start + len) i 0 two past
       ∙ get_or-drop (start + len) flash (i - (start + len)) 0
       ∙ ap (λ (k : ℕ). get_or flash k 0) back
 

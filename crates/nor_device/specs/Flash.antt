@@ -17,7 +17,7 @@ abbrev pub len_of : Step → ℕ
 len_of (Erase sector) = 4096
 len_of (Program at page) = length page
 
--- the address behind the last that it may change
+-- the address after the last that it may change
 abbrev pub end_of : Step → ℕ
 end_of step = start_of step + len_of step
 

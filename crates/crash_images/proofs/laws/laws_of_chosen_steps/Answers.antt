@@ -1,4 +1,4 @@
-use Rattle.crash_images.specs.CutLaws.{one_end, no_end_behind}
+use Rattle.crash_images.proofs.CutLaws.{one_end, no_end_after}
 use Rattle.crash_images.proofs.laws.laws_of_chosen_steps.Goals as goal
 
 -- each is the lemma of its name
@@ -6,4 +6,4 @@ pub returns-clause-one : goal.returns-clause-one
 returns-clause-one c = one_end
 
 pub returns-clause-last : goal.returns-clause-last
-returns-clause-last c = no_end_behind
+returns-clause-last c = no_end_after

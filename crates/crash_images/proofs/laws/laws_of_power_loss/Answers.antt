@@ -1,6 +1,6 @@
 use Rattle.std.proofs.Common.{List, [], ◌∷◌, ℕ, sym, subst, inl, inr}
-use Rattle.crash_images.specs.Left.{LeftAfter}
-use Rattle.crash_images.specs.LeftLaws.{left_begin, left_end, left_none, left_torn, left_more, left_cases, left_front, left_back, left_append}
+use Rattle.crash_images.specs.Crash.{LeftAfter}
+use Rattle.crash_images.proofs.LeftLaws.{left_begin, left_end, left_none, left_torn, left_more, left_cases, left_front, left_back, left_append}
 use Rattle.crash_images.proofs.laws.laws_of_power_loss.Goals as goal
 
 -- with no step the flash stays
@@ -11,7 +11,7 @@ returns-clause-none c =
       λ is. subst (λ (f : List ℕ). LeftAfter flash [] f) (sym is) (left_begin flash []),
     )
 
--- before the first step, within it, or behind it
+-- before the first step, within it, or after it
 pub returns-clause-first : goal.returns-clause-first
 returns-clause-first c = λ flash step steps left. (
   λ after. left_cases flash step steps left after,
@@ -20,21 +20,21 @@ returns-clause-first c = λ flash step steps left. (
         (left_begin flash (step ∷ steps))
     | inr more ↦ elim more [
       | inl torn ↦ left_torn flash step steps left torn
-      | inr behind ↦ left_more flash step steps
-          left behind
+      | inr later ↦ left_more flash step steps
+          left later
     ]
   ],
 )
 
--- within the front, or behind it
+-- within the front, or after it
 pub returns-clause-front_and_back : goal.returns-clause-front_and_back
 returns-clause-front_and_back c =
     λ flash front back left. (
       λ after. left_append flash front back left after,
       λ at. elim at [
         | inl in_front ↦ left_front flash front back left in_front
-        | inr behind ↦
-            left_back flash front back left behind
+        | inr later ↦
+            left_back flash front back left later
       ],
     )
 

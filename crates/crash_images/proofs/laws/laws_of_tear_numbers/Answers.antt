@@ -1,4 +1,4 @@
-use Rattle.crash_images.specs.TearLaws.{tear_is_torn, torn_by_inside, torn_by_outside}
+use Rattle.crash_images.proofs.TearLaws.{tear_is_torn, torn_by_inside, torn_by_outside}
 use Rattle.crash_images.proofs.laws.laws_of_tear_numbers.Goals as goal
 
 -- each is the lemma of its name

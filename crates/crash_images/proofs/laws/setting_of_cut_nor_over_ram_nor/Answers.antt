@@ -1,4 +1,4 @@
-use Rattle.crash_images.specs.CutLaws.{chosen_ends, chosen_tears, chosen_refuses}
+use Rattle.crash_images.proofs.CutLaws.{chosen_ends, chosen_tears, chosen_refuses}
 use Rattle.crash_images.proofs.laws.setting_of_cut_nor_over_ram_nor.Goals as goal
 
 -- a device in memory refuses nothing

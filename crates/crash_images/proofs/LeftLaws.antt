@@ -6,13 +6,13 @@ use Rattle.nor_device.specs.declared.step.Step.{Step}
 use Rattle.nor_device.specs.Flash.{applied, after_steps}
 use Rattle.nor_device.specs.Torn.{Torn}
 use Rattle.nor_device.proofs.FlashLaws.{after_steps_append}
-use Rattle.crash_images.specs.Left.{TornByFirst, LeftAfter}
+use Rattle.crash_images.specs.Crash.{TornByFirst, LeftAfter}
 
 -- before the first step
 pub left_begin : (flash : List ℕ) (steps : List Step) → LeftAfter flash steps flash
 left_begin flash steps = record { made = []; rest = steps; split = refl; stands = inl refl }
 
--- behind the last
+-- after the last
 pub left_end : (flash : List ℕ) (steps : List Step)
     → LeftAfter flash steps (after_steps flash steps)
 left_end flash steps =
@@ -24,7 +24,7 @@ pub left_torn : (flash : List ℕ) (step : Step) (steps : List Step) (left : Lis
 left_torn flash step steps left torn =
     record { made = []; rest = step ∷ steps; split = refl; stands = inr torn }
 
--- behind the first step
+-- after the first step
 pub left_more : (flash : List ℕ) (step : Step) (steps : List Step) (left : List ℕ)
     → LeftAfter (applied flash step) steps left → LeftAfter flash (step ∷ steps) left
 left_more flash step steps left after = record {
@@ -45,7 +45,7 @@ left_none flash left after = none flash left after.made after.rest after.split a
     none f l [] (s ∷ rest) split stands = absurd (cc split)
     none f l (s ∷ made) rest split stands = absurd (cc split)
 
--- else power was lost before the first step, within it, or behind it
+-- else power was lost before the first step, within it, or after it
 pub left_cases : (flash : List ℕ) (step : Step) (steps : List Step) (left : List ℕ)
     → LeftAfter flash (step ∷ steps) left
     → (left ≡ flash) ⊎ (Torn flash step left ⊎ LeftAfter (applied flash step) steps left)
@@ -111,7 +111,7 @@ left_append flash (step ∷ front) back left after =
           (left_begin flash (step ∷ front)))
       | inr more ↦ elim more [
         | inl torn ↦ inl (left_torn flash step front left torn)
-        | inr behind ↦ elim (left_append (applied flash step) front back left behind) [
+        | inr later ↦ elim (left_append (applied flash step) front back left later) [
           | inl in_front ↦ inl (left_more flash step front left in_front)
           | inr in_back ↦ inr in_back
         ]

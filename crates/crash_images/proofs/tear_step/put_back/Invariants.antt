@@ -1,7 +1,8 @@
 use Rattle.std.proofs.Common.{◌≡◌, ◌≤◌, ◌-◌, ◌%◌, ◌<◌, false, None, take, length}
 use Rattle.nor_device.specs.declared.step.Step.TheVariants.{Program}
-use Rattle.nor_device.specs.Nor.{KeepsSetting, IsAfter}
-use Rattle.crash_images.proofs.tear.put_back.Given as goal
+use Rattle.nor_device.specs.Nor.{KeepsSetting}
+use Rattle.nor_device.specs.Make.{IsAfter}
+use Rattle.crash_images.proofs.tear_step.put_back.Given as goal
 
 -- the pages in front are put back
 abbrev pub invariant-loop-done : goal.invariant-loop-done

@@ -1,9 +1,9 @@
 -- What holds of the flash that a tear number names.
-use Rattle.std.specs.Prelude.{◌≡◌, ◌⊎◌, ℕ, ◌+◌, ◌-◌, ◌<◌, ◌≤◌, ◌%◌, List, [], ◌∷◌, ◌++◌, length, take, drop, slice_index, bit_and, bit_or, refl}
+use Rattle.std.specs.Prelude.{◌≡◌, ◌⊎◌, ℕ, ◌+◌, ◌-◌, ◌<◌, ◌≤◌, ◌%◌, List, [], ◌∷◌, ◌++◌, length, take, drop, slice_index, bit_and, bit_or, nat_le, nat_lt, ◌&&◌, if◌then◌else◌, true, false, refl}
 use Rattle.std.proofs.Common.{zero, suc, get_or, sym, ◌∙◌, ap, subst, inl, inr, arith, add-zero, zero-add, length-drop, length-append}
 use Rattle.std.proofs.lemmas.List.{ext_get_or, length-take, get_or_append_left, get_or-append_right}
 use Rattle.std.proofs.lemmas.Bool.{cases_lt}
-use Rattle.std.proofs.lemmas.Nat.{and_assoc, and_comm, and_or_self, or_comm, and_mask}
+use Rattle.std.proofs.lemmas.Nat.{and_assoc, and_comm, and_or_self, or_comm, and_mask, or_of_8}
 use Rattle.nor_device.specs.declared.step.Step.{Step}
 use Rattle.nor_device.specs.declared.step.Step.TheVariants.{Erase, Program}
 use Rattle.nor_device.specs.Flash.{start_of, len_of, end_of, anded, applied, changed_byte, byte_after}
@@ -11,41 +11,41 @@ use Rattle.nor_device.specs.Torn.{IsTornProgram, IsTornByte, Torn}
 use Rattle.nor_device.proofs.Splice.{length-spliced, spliced_below, spliced_within, spliced_above, part_byte}
 use Rattle.nor_device.proofs.FlashLaws.{length-anded, get_or-anded, length_applied, byte_applied, byte_after_outside, byte_after_inside}
 use Rattle.nor_device.proofs.TornLaws.{torn_program_made}
-use Rattle.crash_images.specs.Tear.{mask_at, masked, torn_byte_of, torn_part, torn_by, is_erase, data_byte_of}
+use Rattle.crash_images.specs.Tear.{window_mask, other_mask, window_start, window_end, mask_at, with_mask_bits, torn_byte_of, torn_part, torn_by, is_erase, data_byte_of}
 
 -- setting bits keeps the length
-pub length_masked : (tear i : ℕ) (bytes : List ℕ) → length (masked tear i bytes) ≡ length bytes
-length_masked tear i [] = refl
-length_masked tear i (byte ∷ bytes) = omega (arith, length_masked tear (i + 1) bytes)
+pub length_with_mask_bits : (tear i : ℕ) (bytes : List ℕ) → length (with_mask_bits tear i bytes) ≡ length bytes
+length_with_mask_bits tear i [] = refl
+length_with_mask_bits tear i (byte ∷ bytes) = omega (arith, length_with_mask_bits tear (i + 1) bytes)
 
 -- each byte has the bits of its mask set
-pub get_or-masked : (tear i : ℕ) (bytes : List ℕ) (k : ℕ) → k < length bytes
-    → get_or (masked tear i bytes) k 0 ≡ bit_or (get_or bytes k 0) (mask_at tear (i + k))
-get_or-masked tear i [] k inside = absurd (omega arith)
-get_or-masked tear i (byte ∷ bytes) zero inside =
+pub get_or-with_mask_bits : (tear i : ℕ) (bytes : List ℕ) (k : ℕ) → k < length bytes
+    → get_or (with_mask_bits tear i bytes) k 0 ≡ bit_or (get_or bytes k 0) (mask_at tear (i + k))
+get_or-with_mask_bits tear i [] k inside = absurd (omega arith)
+get_or-with_mask_bits tear i (byte ∷ bytes) zero inside =
     ap (λ (n : ℕ). bit_or byte (mask_at tear n)) (sym (add-zero i))
-get_or-masked tear i (byte ∷ bytes) (suc k) inside =
+get_or-with_mask_bits tear i (byte ∷ bytes) (suc k) inside =
     let next : i + 1 + k ≡ i + suc k = omega arith in
-    get_or-masked tear (i + 1) bytes k (omega arith)
+    get_or-with_mask_bits tear (i + 1) bytes k (omega arith)
     ∙ ap (λ (n : ℕ). bit_or (get_or bytes k 0) (mask_at tear n)) next
 
 -- a tear keeps the length of what it changes
 pub length-torn_part : (step : Step) (tear : ℕ) (part : List ℕ)
     → length (torn_part step tear part) ≡ length part
-length-torn_part (Erase sector) tear part = length_masked tear 0 part
-length-torn_part (Program at page) tear part = length-anded part (masked tear 0 page)
+length-torn_part (Erase sector) tear part = length_with_mask_bits tear 0 part
+length-torn_part (Program at page) tear part = length-anded part (with_mask_bits tear 0 page)
 
 -- and makes of each byte of it the torn byte
 pub get_or-torn_part : (step : Step) (tear : ℕ) (part : List ℕ) (k : ℕ) → k < length part
     → k < len_of step → get_or (torn_part step tear part) k 0
     ≡ torn_byte_of (get_or part k 0) (data_byte_of step k) (is_erase step) tear k
-get_or-torn_part (Erase sector) tear part k in_part in_range = get_or-masked tear 0 part k in_part
+get_or-torn_part (Erase sector) tear part k in_part in_range = get_or-with_mask_bits tear 0 part k in_part
     ∙ ap (λ (n : ℕ). bit_or (get_or part k 0) (mask_at tear n)) (zero-add k)
 get_or-torn_part (Program at page) tear part k in_part in_range =
-    let there : k < length (masked tear 0 page) = omega (arith, length_masked tear 0 page) in
-    get_or-anded part (masked tear 0 page) k in_part there
+    let there : k < length (with_mask_bits tear 0 page) = omega (arith, length_with_mask_bits tear 0 page) in
+    get_or-anded part (with_mask_bits tear 0 page) k in_part there
     ∙ ap (λ (x : ℕ). bit_and (get_or part k 0) x)
-    (get_or-masked tear 0 page k in_range
+    (get_or-with_mask_bits tear 0 page k in_range
     ∙ ap (λ (n : ℕ). bit_or (get_or page k 0) (mask_at tear n)) (zero-add k))
 
 -- the flash keeps its length
@@ -102,10 +102,17 @@ torn_program_weaker data_byte mask old new torn = record {
     fewer = ap (λ (x : ℕ). bit_and x data_byte) (or_comm data_byte mask)
         ∙ and_or_self data_byte mask
 
+-- a mask is a byte
+mask_small : (tear i : ℕ) → mask_at tear i < 256
+mask_small tear i =
+    elim (nat_le (window_start tear) i && nat_lt i (window_end tear))
+    as (λ v. (if v then window_mask tear else other_mask tear) < 256)
+    [ true ↦ omega arith | false ↦ omega arith ]
+
 -- the torn byte is one of those that a torn step may leave
 torn_byte_of_torn : (step : Step) (tear k old : ℕ)
     → IsTornByte step k old (torn_byte_of old (data_byte_of step k) (is_erase step) tear k)
-torn_byte_of_torn (Erase sector) tear k old = tt
+torn_byte_of_torn (Erase sector) tear k old = λ small. or_of_8 old (mask_at tear k) small (mask_small tear k)
 torn_byte_of_torn (Program at page) tear k old =
     torn_program_weaker (slice_index page k) (mask_at tear k) old _
     (torn_program_made (bit_or (slice_index page k) (mask_at tear k)) old)
@@ -124,18 +131,18 @@ tear_is_torn flash step tear = record {
   };
 }
 
--- a program with the masked data leaves what the tear number names
+-- a program with the bits of the masks set in its data leaves what the tear number names
 pub applied_masked : (flash : List ℕ) (at tear : ℕ) (page : List ℕ)
-    → applied flash (Program at (masked tear 0 page)) ≡ torn_by flash (Program at page) tear
+    → applied flash (Program at (with_mask_bits tear 0 page)) ≡ torn_by flash (Program at page) tear
 applied_masked flash at tear page =
-    ap (λ (n : ℕ). take at flash ++ anded (take n (drop at flash)) (masked tear 0 page)
-    ++ drop (at + n) flash) (length_masked tear 0 page)
+    ap (λ (n : ℕ). take at flash ++ anded (take n (drop at flash)) (with_mask_bits tear 0 page)
+    ++ drop (at + n) flash) (length_with_mask_bits tear 0 page)
 
--- torn with the masked data is torn
+-- torn with the bits of the masks set in its data is torn
 pub torn_masked : (flash left : List ℕ) (at tear : ℕ) (page : List ℕ)
-    → Torn flash (Program at (masked tear 0 page)) left → Torn flash (Program at page) left
+    → Torn flash (Program at (with_mask_bits tear 0 page)) left → Torn flash (Program at page) left
 torn_masked flash left at tear page torn =
-    let len = length_masked tear 0 page in
+    let len = length_with_mask_bits tear 0 page in
     record {
       same_length = torn.same_length;
       byte = λ i inside.
@@ -144,37 +151,16 @@ torn_masked flash left at tear page torn =
             outside = λ out. b.outside (subst (λ (n : ℕ). (i < at) ⊎ (at + n ≤ i)) (sym len) out);
             inside = λ from to.
                 let there : i - at < length page = omega arith in
-                let long : i < at + length (masked tear 0 page) = omega (arith, len) in
-                let d : slice_index (masked tear 0 page) (i - at)
+                let long : i < at + length (with_mask_bits tear 0 page) = omega (arith, len) in
+                let d : slice_index (with_mask_bits tear 0 page) (i - at)
                 ≡ bit_or (slice_index page (i - at)) (mask_at tear (0 + (i - at))) =
-                get_or-masked tear 0 page (i - at) there in
+                get_or-with_mask_bits tear 0 page (i - at) there in
                 torn_program_weaker (slice_index page (i - at)) (mask_at tear (0 + (i - at)))
                 (slice_index flash i) (slice_index left i)
                 (subst (λ (x : ℕ). IsTornProgram x (slice_index flash i) (slice_index left i)) d
                 (b.inside from long));
           };
     }
-
--- a step inside the range of an erase that was cut short leaves it cut short
-pub torn_within : (erase step : Step) → ((k a b : ℕ) → IsTornByte erase k a b)
-    → start_of erase ≤ start_of step → end_of step ≤ end_of erase
-    → (first second third : List ℕ) → Torn first erase second → Torn second step third
-    → Torn first erase third
-torn_within erase step any from_start to_end first second third one two = record {
-  same_length = two.same_length ∙ one.same_length;
-  byte = λ i inside.
-      let within : i < length second = omega (arith, inside, one.same_length) in
-      record {
-        outside = λ out. (two.byte i within).outside (further i out)
-            ∙ (one.byte i inside).outside out;
-        inside = λ from to. any (i - start_of erase) (slice_index first i) (slice_index third i);
-      };
-}
-  where
-    further : (i : ℕ) → (i < start_of erase) ⊎ (end_of erase ≤ i)
-        → (i < start_of step) ⊎ (end_of step ≤ i)
-    further i (inl low) = inl (omega arith)
-    further i (inr high) = inr (omega arith)
 
 -- a program of nothing changes nothing
 pub applied_nothing : (flash : List ℕ) (at : ℕ) → applied flash (Program at []) ≡ flash
@@ -317,10 +303,10 @@ applied_erased flash erase all_ones bytes long inside small =
             ∙ byte_after_inside put i 255 from end
             ∙ and_erased (get_or bytes (i - start_of erase) 0) (small (i - start_of erase))
             ∙ sym (spliced_within flash start len bytes same i from to in_flash)
-        | inr behind ↦
+        | inr past ↦
             let end : start_of erase + length bytes ≤ i = omega (arith, long) in
             byte_after_outside put i (byte_after erase i (slice_index flash i)) (inr end)
-            ∙ byte_after_outside erase i (slice_index flash i) (inr behind)
-            ∙ sym (spliced_above flash start len bytes same i behind in_flash)
+            ∙ byte_after_outside erase i (slice_index flash i) (inr past)
+            ∙ sym (spliced_above flash start len bytes same i past in_flash)
       ]
     ]

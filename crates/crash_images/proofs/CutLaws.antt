@@ -9,7 +9,8 @@ use Rattle.nor_device.specs.declared.nor.NorFault.TheVariants as faults
 use Rattle.nor_device.specs.Nor.{end_by}
 use Rattle.crash_images.specs.declared.cut.CutSetting.{CutSetting}
 use Rattle.crash_images.specs.Tear.{torn_by}
-use Rattle.crash_images.specs.Cut.{IsAhead, NotBoth, IsBad, EndsBy, MayRefuse, CutMayEnd, CutMayTear, CutMayRefuse}
+use Rattle.crash_images.specs.TearStep.{MayRefuse}
+use Rattle.crash_images.specs.Cut.{IsAhead, NotBoth, IsBad, EndsBy, CutMayEnd, CutMayTear, CutMayRefuse}
 
 -- no step is refused so that it is done
 never_done : (why : NorFault) → end_by why ≡ ends.Done → ⊥
@@ -67,10 +68,10 @@ ahead_other None n ahead is = cc is
 ahead_other (Some k) n ahead is = let same : k ≡ n = cc is in absurd (omega arith)
 
 -- nor an earlier one
-ahead_later : (chosen : Option ℕ) (n behind : ℕ) → n < behind → IsAhead chosen behind
+ahead_later : (chosen : Option ℕ) (n later : ℕ) → n < later → IsAhead chosen later
     → chosen ≡ Some n → ⊥
-ahead_later None n behind less ahead is = cc is
-ahead_later (Some k) n behind less ahead is = let same : k ≡ n = cc is in absurd (omega arith)
+ahead_later None n later less ahead is = cc is
+ahead_later (Some k) n later less ahead is = let same : k ≡ n = cc is in absurd (omega arith)
 
 -- the two are not chosen both
 not_two : (cut fail : Option ℕ) (n m : ℕ) → NotBoth cut fail → cut ≡ Some n → fail ≡ Some m → ⊥
@@ -78,9 +79,9 @@ not_two cut fail n m (inl none) is_cut is_fail = cc (none, is_cut)
 not_two cut fail n m (inr none) is_cut is_fail = cc (none, is_fail)
 
 -- one number is not two
-not_later : (chosen : Option ℕ) (n behind : ℕ) → n < behind → chosen ≡ Some n → chosen ≡ Some behind
+not_later : (chosen : Option ℕ) (n later : ℕ) → n < later → chosen ≡ Some n → chosen ≡ Some later
     → ⊥
-not_later chosen n behind less first second = let same : n ≡ behind =
+not_later chosen n later less first second = let same : n ≡ later =
     cc (first, second) in absurd (omega arith)
 
 -- no step number has two ends
@@ -96,18 +97,18 @@ one_end cut fail n ends.Failed ends.Done one a b = absurd (ahead_other fail n b.
 one_end cut fail n ends.Failed ends.Cut one a b = absurd (not_two cut fail n n one b a)
 one_end cut fail n ends.Failed ends.Failed one a b = refl
 
--- none behind the chosen one has any
-pub no_end_behind : (cut fail : Option ℕ) (n behind : ℕ) (end : StepEnd) → NotBoth cut fail
-    → IsBad cut fail n → n < behind → EndsBy cut fail behind end → ⊥
-no_end_behind cut fail n behind ends.Done one (inl is) less stands =
-    ahead_later cut n behind less stands.0 is
-no_end_behind cut fail n behind ends.Done one (inr is) less stands =
-    ahead_later fail n behind less stands.1 is
-no_end_behind cut fail n behind ends.Cut one (inl is) less stands =
-    not_later cut n behind less is stands
-no_end_behind cut fail n behind ends.Cut one (inr is) less stands =
-    not_two cut fail behind n one stands is
-no_end_behind cut fail n behind ends.Failed one (inl is) less stands =
-    not_two cut fail n behind one is stands
-no_end_behind cut fail n behind ends.Failed one (inr is) less stands =
-    not_later fail n behind less is stands
+-- none after the chosen one has any
+pub no_end_after : (cut fail : Option ℕ) (n later : ℕ) (end : StepEnd) → NotBoth cut fail
+    → IsBad cut fail n → n < later → EndsBy cut fail later end → ⊥
+no_end_after cut fail n later ends.Done one (inl is) less stands =
+    ahead_later cut n later less stands.0 is
+no_end_after cut fail n later ends.Done one (inr is) less stands =
+    ahead_later fail n later less stands.1 is
+no_end_after cut fail n later ends.Cut one (inl is) less stands =
+    not_later cut n later less is stands
+no_end_after cut fail n later ends.Cut one (inr is) less stands =
+    not_two cut fail later n one stands is
+no_end_after cut fail n later ends.Failed one (inl is) less stands =
+    not_two cut fail n later one is stands
+no_end_after cut fail n later ends.Failed one (inr is) less stands =
+    not_later fail n later less is stands

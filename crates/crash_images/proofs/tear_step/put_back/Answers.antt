@@ -1,7 +1,7 @@
 use Rattle.std.proofs.Common.{◌≤◌, ◌+◌, length, arith, rules}
 use Rattle.std.proofs.lemmas.Result.{err_from_is_err_and}
 use Rattle.crash_images.proofs.Told.{page_put, page_refused}
-use Rattle.crash_images.proofs.tear.put_back.Goals as goal
+use Rattle.crash_images.proofs.tear_step.put_back.Goals as goal
 
 -- what was put back and the page that was refused lie in the range
 pub returns-in_err-put_page-clause-refused : goal.returns-in_err-put_page-clause-refused

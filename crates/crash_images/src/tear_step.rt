@@ -1,0 +1,149 @@
+//! A torn step is made on the device by steps: a program with the bits of the mask left in
+//! its data, and an erase that is followed by programs of the bytes with the bits of the mask set.
+
+ghost use Rattle.std.specs.Prelude.{◌≡◌, ℕ, ◌+◌, ◌%◌, ◌<◌, ◌≤◌, ◌^◌, true, None, Some, OnOk, OnErr, length, slice_index};
+ghost use Rattle.nor_device.specs.declared.step.Step.TheVariants.{Erase, Program};
+ghost use Rattle.nor_device.specs.Flash.{start_of, len_of};
+ghost use Rattle.nor_device.specs.Nor.{IsLeftTorn};
+ghost use Rattle.nor_device.specs.Make.{IsAfter, IsTornBy};
+ghost use Rattle.crash_images.specs.Tear.{with_mask_bits, is_erase};
+ghost use Rattle.crash_images.specs.TearStep.{MayStart, LeavesIdle, TearLeaves, IsTornByNumber};
+ghost use Rattle.crash_images.specs.Agrees.{StaysOutside};
+
+use crate::tear::set_mask_bits;
+use nor_device::{Nor, NorFault, PAGE_SIZE, Page, SECTOR_SIZE, Step, make_step};
+
+/// Makes what the tear number leaves of the step, or tears it where the device refuses a call.
+pub(crate) fn tear_step<D: Nor>(inner: &mut D, step: &Step, tear: u64) -> Result<(), NorFault>
+    requires start { MayStart D.running D.size inner.old step.now }
+    ensures left { IsLeftTorn (TearLeaves D.may_end D.may_refuse (D.setting inner.old) tear)
+        (Some step.now) (D.bytes inner.old) (D.bytes inner.new) }
+    ensures kept { LeavesIdle D.running D.size D.off D.faults D.setting D.may_end D.may_refuse
+        inner.old inner.new result }
+{
+    tear_by_kind(inner, step, tear)
+}
+
+/// Makes what the tear number leaves of the step.
+fn tear_by_kind<D: Nor>(inner: &mut D, step: &Step, tear: u64) -> Result<(), NorFault>
+    requires start { MayStart D.running D.size inner.old step.now }
+    ensures torn { OnOk result (IsTornByNumber step.now tear (D.bytes inner.old) (D.bytes inner.new)) }
+    ensures refused { OnErr result (IsTornBy step.now (D.bytes inner.old) (D.bytes inner.new)) }
+    ensures kept { LeavesIdle D.running D.size D.off D.faults D.setting D.may_end D.may_refuse
+        inner.old inner.new result }
+{
+    match step {
+        Step::Erase { sector } => tear_erase(inner, *sector, tear),
+        Step::Program { at, bytes } => tear_program(inner, *at, bytes, tear),
+    }
+}
+
+/// Makes what the tear number leaves of a program.
+fn tear_program<D: Nor>(inner: &mut D, at: u32, page: &Page, tear: u64) -> Result<(), NorFault>
+    requires start { MayStart D.running D.size inner.old (Program at page.now) }
+    ensures torn { OnOk result
+        (IsTornByNumber (Program at page.now) tear (D.bytes inner.old) (D.bytes inner.new)) }
+    ensures refused { OnErr result
+        (IsTornBy (Program at page.now) (D.bytes inner.old) (D.bytes inner.new)) }
+    ensures kept { LeavesIdle D.running D.size D.off D.faults D.setting D.may_end D.may_refuse
+        inner.old inner.new result }
+{
+    let bytes = page_with_mask_bits(page, tear);
+    make_step(inner, &Step::Program { at, bytes })
+}
+
+/// The page with the bits of the masks set.
+fn page_with_mask_bits(page: &Page, tear: u64) -> Page
+    ensures exact { result ≡ with_mask_bits tear 0 page.now }
+    ensures length { length result ≡ length page.now }
+{
+    let bytes = page.bytes();
+    let mut buffer = [0; PAGE_SIZE];
+    let part = &mut buffer[..bytes.len()];
+    part.copy_from_slice(bytes);
+    set_mask_bits(part, tear);
+    let Some(page) = Page::of(part) else {
+        unreachable!();
+    };
+    page
+}
+
+/// Makes what the tear number leaves of the erase of a sector.
+fn tear_erase<D: Nor>(inner: &mut D, sector: u32, tear: u64) -> Result<(), NorFault>
+    requires start { MayStart D.running D.size inner.old (Erase sector) }
+    ensures torn { OnOk result
+        (IsTornByNumber (Erase sector) tear (D.bytes inner.old) (D.bytes inner.new)) }
+    ensures refused { OnErr result (IsTornBy (Erase sector) (D.bytes inner.old) (D.bytes inner.new)) }
+    ensures kept { LeavesIdle D.running D.size D.off D.faults D.setting D.may_end D.may_refuse
+        inner.old inner.new result }
+{
+    let mut part = [0; 4096];
+    tear_range(
+        inner,
+        &Step::Erase { sector },
+        sector * SECTOR_SIZE,
+        &mut part,
+        tear,
+    )
+}
+
+/// Makes what the tear number leaves of an erase of the range from `at` on, with room for its bytes.
+fn tear_range<D: Nor>(
+    inner: &mut D,
+    erase: &Step,
+    at: u32,
+    part: &mut [u8],
+    tear: u64,
+) -> Result<(), NorFault>
+    requires erases { is_erase erase.now ≡ true }
+    requires range { (at ≡ start_of erase.now) × (length part.old ≡ len_of erase.now) }
+    requires pages { (at % 256 ≡ 0) × (length part.old % 256 ≡ 0) }
+    requires some { 1 ≤ length part.old }
+    requires start { MayStart D.running D.size inner.old erase.now }
+    ensures torn { OnOk result (IsTornByNumber erase.now tear (D.bytes inner.old) (D.bytes inner.new)) }
+    ensures refused { OnErr result (IsTornBy erase.now (D.bytes inner.old) (D.bytes inner.new)) }
+    ensures kept { LeavesIdle D.running D.size D.off D.faults D.setting D.may_end D.may_refuse
+        inner.old inner.new result }
+{
+    inner.read(at, part)?;
+    set_mask_bits(part, tear);
+    make_step(inner, erase)?;
+    put_back(inner, at, part)
+}
+
+/// Programs the bytes from the address on, page by page.
+fn put_back<D: Nor>(inner: &mut D, at: u32, part: &[u8]) -> Result<(), NorFault>
+    requires pages { (at % 256 ≡ 0) × (length part.now % 256 ≡ 0) }
+    requires some { 1 ≤ length part.now }
+    requires idle { D.running inner.old ≡ None }
+    requires small { at + length part.now ≤ 2 ^ 32 }
+    requires inside { at + length part.now ≤ D.size inner.old }
+    ensures bytes { (k : ℕ) → slice_index part.now k < 256 }
+    ensures put { OnOk result (IsAfter (Program at part.now) (D.bytes inner.old) (D.bytes inner.new)) }
+    ensures refused { OnErr result
+        (StaysOutside at (at + length part.now) (D.bytes inner.old) (D.bytes inner.new)) }
+    ensures kept { LeavesIdle D.running D.size D.off D.faults D.setting D.may_end D.may_refuse
+        inner.old inner.new result }
+{
+    let mut done = 0;
+    while done < part.len() {
+        put_page(inner, at + done as u32, &part[done..done + PAGE_SIZE])?;
+        done += PAGE_SIZE;
+    }
+    Ok(())
+}
+
+/// Programs one page.
+fn put_page<D: Nor>(inner: &mut D, at: u32, bytes: &[u8]) -> Result<(), NorFault>
+    requires page { length bytes.now ≡ 256 }
+    requires start { MayStart D.running D.size inner.old (Program at bytes.now) }
+    ensures put { OnOk result (IsAfter (Program at bytes.now) (D.bytes inner.old) (D.bytes inner.new)) }
+    ensures torn { OnErr result (IsTornBy (Program at bytes.now) (D.bytes inner.old) (D.bytes inner.new)) }
+    ensures kept { LeavesIdle D.running D.size D.off D.faults D.setting D.may_end D.may_refuse
+        inner.old inner.new result }
+{
+    let Some(page) = Page::of(bytes) else {
+        unreachable!();
+    };
+    make_step(inner, &Step::Program { at, bytes: page })
+}
