@@ -35,8 +35,8 @@ agrees_fewer Stays Fewer old new fewer agrees = record {
 
 -- a part whose addresses stay is the same
 pub agrees_part : (Stays : ℕ → Type 0) (old new : List ℕ) (at len : ℕ) → Covers Stays at len
-    → Agrees Stays old new → at + len ≤ length old → part_of new at len ≡ part_of old at len
-agrees_part Stays old new at len covers agrees room =
+    → Agrees Stays old new → part_of new at len ≡ part_of old at len
+agrees_part Stays old new at len covers agrees =
     ext_get_or 0 (part_of new at len) (part_of old at len)
     (omega (
       arith,
@@ -49,7 +49,13 @@ agrees_part Stays old new at len covers agrees room =
     (λ i inside.
     let short : i < len = omega (arith, inside, length-take len (drop at new)) in
     get_or-take len (drop at new) i 0 short ∙ get_or-drop at new i 0
-    ∙ agrees.byte (at + i) (omega arith) (covers (at + i) (omega arith) (omega arith))
+    ∙ agrees.byte (at + i) (omega (
+      arith,
+      inside,
+      agrees.same_length,
+      length-take len (drop at new),
+      length-drop at new,
+    )) (covers (at + i) (omega arith) (omega arith))
     ∙ sym (get_or-take len (drop at old) i 0 short ∙ get_or-drop at old i 0))
 
 -- a range in a range

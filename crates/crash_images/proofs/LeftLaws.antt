@@ -1,11 +1,12 @@
 -- How what a loss of power leaves of a list of steps goes on from step to step.
-use Rattle.std.specs.Prelude.{◌≡◌, ◌⊎◌, List, [], ◌∷◌, ◌++◌, ℕ, refl}
+use Rattle.std.specs.Prelude.{◌≡◌, ◌⊎◌, ◌<◌, List, [], ◌∷◌, ◌++◌, ℕ, All, refl}
 use Rattle.std.proofs.Common.{sym, ◌∙◌, ap, subst, inl, inr}
 use Rattle.std.proofs.lemmas.List.{append-nil, append_assoc}
 use Rattle.nor_device.specs.declared.step.Step.{Step}
 use Rattle.nor_device.specs.Flash.{applied, after_steps}
 use Rattle.nor_device.specs.Torn.{Torn}
 use Rattle.nor_device.proofs.FlashLaws.{after_steps_append}
+use Rattle.nor_device.proofs.TornLaws.{torn_small, torn_applied}
 use Rattle.crash_images.specs.Crash.{TornByFirst, LeftAfter}
 
 -- before the first step
@@ -115,5 +116,20 @@ left_append flash (step ∷ front) back left after =
           | inl in_front ↦ inl (left_more flash step front left in_front)
           | inr in_back ↦ inr in_back
         ]
+      ]
+    ]
+
+-- what is left of a flash of bytes is one of bytes
+pub left_small : (flash : List ℕ) (steps : List Step) (left : List ℕ) → LeftAfter flash steps left
+    → All (λ b. b < 256) flash → All (λ b. b < 256) left
+left_small flash [] left after small =
+    subst (λ (f : List ℕ). All (λ b. b < 256) f) (sym (left_none flash left after)) small
+left_small flash (step ∷ steps) left after small =
+    elim (left_cases flash step steps left after) [
+      | inl is ↦ subst (λ (f : List ℕ). All (λ b. b < 256) f) (sym is) small
+      | inr more ↦ elim more [
+        | inl torn ↦ torn_small flash left step torn small
+        | inr later ↦ left_small (applied flash step) steps left later
+            (torn_small flash (applied flash step) step (torn_applied flash step) small)
       ]
     ]

@@ -1,5 +1,6 @@
 pub mod TearLaws
 pub mod LeftLaws
+pub mod LeftOf
 pub mod AgreesLaws
 pub mod CutLaws
 mod Told

@@ -1,15 +1,17 @@
 //! What holds of every tear number, of every loss of power, and of the program's own device.
 
-ghost use Rattle.std.specs.Prelude.{◌≡◌, ◌⊎◌, ◌↔◌, ℕ, ◌-◌, ◌<◌, ◌≤◌, List, ◌∷◌, ◌++◌, [], Option, None, Some, length, slice_index};
+ghost use Rattle.std.specs.Prelude.{◌≡◌, ◌⊎◌, ◌↔◌, ℕ, ◌-◌, ◌<◌, ◌≤◌, All, List, ◌∷◌, ◌++◌, [], Option, None, Some, length, slice_index};
 ghost use Rattle.nor_device.specs.declared.step.Step.{Step};
 ghost use Rattle.nor_device.specs.declared.nor.StepEnd.{StepEnd};
 ghost use Rattle.nor_device.specs.declared.nor.NorFault.{NorFault};
 ghost use Rattle.nor_device.specs.Flash.{start_of, end_of, applied, after_steps};
 ghost use Rattle.nor_device.specs.Torn.{Torn};
 ghost use Rattle.nor_device.specs.Nor.{end_by};
+ghost use Rattle.nor_device.specs.Make.{IsAfter, IsTornBy};
 ghost use Rattle.crash_images.specs.declared.cut.CutSetting.{CutSetting};
 ghost use Rattle.crash_images.specs.Tear.{torn_by, torn_byte_of, data_byte_of, is_erase};
-ghost use Rattle.crash_images.specs.Crash.{LeftAfter};
+ghost use Rattle.crash_images.specs.Crash.{LeftAfter, IsAfterAll, IsLeftOf};
+ghost use Rattle.crash_images.specs.Agrees.{Agrees, IsBeside, StepsWithin};
 ghost use Rattle.crash_images.specs.Cut.{EndsBy, IsBad, NotBoth};
 
 use crate::crash::Crash;
@@ -31,7 +33,8 @@ pub fn laws_of_tear_numbers()
         → slice_index (torn_by flash step tear) i ≡ slice_index flash i }
 {}
 
-/// What a loss of power may leave of a list of steps: step by step, and list by list.
+/// What a loss of power may leave of a list of steps: step by step, and list by list; bytes stay bytes, and those outside the
+/// steps' ranges stay as they are.
 pub fn laws_of_power_loss()
     ensures none { (flash left : List ℕ) → LeftAfter flash [] left ↔ (left ≡ flash) }
     ensures first { (flash : List ℕ) (step : Step) (steps : List Step) (left : List ℕ)
@@ -42,6 +45,27 @@ pub fn laws_of_power_loss()
         ↔ (LeftAfter flash front left ⊎ LeftAfter (after_steps flash front) back left) }
     ensures last { (flash : List ℕ) (steps : List Step)
         → LeftAfter flash steps (after_steps flash steps) }
+    ensures outside { (start end : ℕ) (flash : List ℕ) (steps : List Step) (left : List ℕ)
+        → StepsWithin start end steps → LeftAfter flash steps left
+        → Agrees (IsBeside start end) flash left }
+    ensures bytes { (flash : List ℕ) (steps : List Step) (left : List ℕ)
+        → LeftAfter flash steps left → All (λ b. b < 256) flash → All (λ b. b < 256) left }
+{}
+
+/// Told bytes while steps are made: after all of them, or left at some moment of them.
+pub fn laws_of_told_bytes()
+    ensures torn { (step : Step) (steps : List Step) (old new : Option (List ℕ))
+        → IsTornBy step old new → IsLeftOf (step ∷ steps) old new }
+    ensures more { (step : Step) (steps : List Step) (old mid new : Option (List ℕ))
+        → IsAfter step old mid → IsLeftOf steps mid new → IsLeftOf (step ∷ steps) old new }
+    ensures after { (step : Step) (steps : List Step) (old mid new : Option (List ℕ))
+        → IsAfter step old mid → IsAfterAll steps mid new → IsAfterAll (step ∷ steps) old new }
+    ensures front { (front back : List Step) (old new : Option (List ℕ))
+        → IsLeftOf front old new → IsLeftOf (front ++ back) old new }
+    ensures back { (front back : List Step) (old mid new : Option (List ℕ))
+        → IsAfterAll front old mid → IsLeftOf back mid new → IsLeftOf (front ++ back) old new }
+    ensures both { (front back : List Step) (old mid new : Option (List ℕ))
+        → IsAfterAll front old mid → IsAfterAll back mid new → IsAfterAll (front ++ back) old new }
 {}
 
 /// What a loss of power now may leave of a device: its bytes alone where no step runs, and every flash

@@ -1,6 +1,8 @@
 //! What no clause says: that the rows come out at a real size, and each generic call at a concrete device.
 
-ghost use Rattle.std.specs.Prelude.{◌≡◌, IfOk, length};
+ghost use Rattle.std.specs.Prelude.{◌≡◌, ◌≤◌, ◌^◌, ◌∷◌, [], None, IfOk, OnOk, OnErr, length};
+ghost use Rattle.nor_device.specs.Flash.{end_of, IsInOnePage};
+ghost use Rattle.crash_images.specs.Crash.{IsAfterAll, IsLeftOf};
 
 use crate::*;
 use nor_device::{Nor, NorFault, Page, RamNor, Step, make_step};
@@ -17,6 +19,26 @@ fn filled(alloc: Global, byte: u8, size: usize) -> Result<Vec<u8>, AllocError>
     ensures { IfOk result (λ bytes. length bytes.items ≡ size) }
 {
     Ok(vec![in alloc; byte; size]?)
+}
+
+/// Erases a sector and programs a page: both are made, or a loss of power left them at some moment.
+#[tactic(auto, using(nor_device::proofs::Missed::missed_torn, crate::proofs::LeftOf::left_of_torn, crate::proofs::LeftOf::left_of_more, crate::proofs::LeftOf::after_more, crate::proofs::LeftOf::after_none))]
+fn rewrite<D: Nor>(device: &mut D, erase: &Step, program: &Step) -> Result<(), NorFault>
+    requires idle { D.running device.old ≡ None }
+    requires erase_paged { IsInOnePage erase.now }
+    requires erase_small { end_of erase.now ≤ 2 ^ 32 }
+    requires erase_inside { end_of erase.now ≤ D.size device.old }
+    requires program_paged { IsInOnePage program.now }
+    requires program_small { end_of program.now ≤ 2 ^ 32 }
+    requires program_inside { end_of program.now ≤ D.size device.old }
+    ensures idle { D.running device.new ≡ None }
+    ensures made { OnOk result
+        (IsAfterAll (erase.now ∷ program.now ∷ []) (D.bytes device.old) (D.bytes device.new)) }
+    ensures left { OnErr result
+        (IsLeftOf (erase.now ∷ program.now ∷ []) (D.bytes device.old) (D.bytes device.new)) }
+{
+    make_step(device, erase)?;
+    make_step(device, program)
 }
 
 #[test]

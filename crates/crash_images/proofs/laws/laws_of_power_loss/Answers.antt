@@ -1,6 +1,7 @@
 use Rattle.std.proofs.Common.{List, [], ◌∷◌, ℕ, sym, subst, inl, inr}
 use Rattle.crash_images.specs.Crash.{LeftAfter}
-use Rattle.crash_images.proofs.LeftLaws.{left_begin, left_end, left_none, left_torn, left_more, left_cases, left_front, left_back, left_append}
+use Rattle.crash_images.proofs.LeftLaws.{left_begin, left_end, left_none, left_torn, left_more, left_cases, left_front, left_back, left_append, left_small}
+use Rattle.crash_images.proofs.AgreesLaws.{left_agrees}
 use Rattle.crash_images.proofs.laws.laws_of_power_loss.Goals as goal
 
 -- with no step the flash stays
@@ -40,3 +41,9 @@ returns-clause-front_and_back c =
 
 pub returns-clause-last : goal.returns-clause-last
 returns-clause-last c = left_end
+
+pub returns-clause-outside : goal.returns-clause-outside
+returns-clause-outside c = left_agrees
+
+pub returns-clause-bytes : goal.returns-clause-bytes
+returns-clause-bytes c = left_small
