@@ -65,10 +65,14 @@ fn a_torn_byte_is_that_of_its_tear_number(rt: HostRuntime) {
 fn a_cut_tears_its_step_and_a_restart_reads_it(rt: HostRuntime) -> Result<(), Fail> {
     let inner = RamNor::of_bytes(filled(rt.alloc(), 0, SIZE)?, 0);
     let mut device = CutNor::new(inner, Some(2), 0xFFFF, None);
-    make_step(&mut device, &Step::Erase { sector: 0 })?;
+    let erase = Step::Erase { sector: 0 };
     let bytes = Page::of(&[12]).ok_or("one byte is a page")?;
-    device.start(&Step::Program { at: 0, bytes })?;
-    assert_eq!(rt; device.poll(), Err(NorFault::Off), "the first poll");
+    let program = Step::Program { at: 0, bytes };
+    assert_eq!(rt;
+        rewrite(&mut device, &erase, &program),
+        Err(NorFault::Off),
+        "the second step"
+    );
     let mut byte = [0];
     assert_eq!(rt;
         device.read(0, &mut byte),

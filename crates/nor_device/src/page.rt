@@ -34,6 +34,13 @@ impl Page {
         ensures fits { IfSome result (λ page. IsPageLength page) }
         ensures none { IsNone result ↔ (IsPageLength bytes.now → ⊥) }
     {
+        // A full page, which is nearly every one, is copied without room that is zeroed first.
+        if let Some(full) = bytes.as_array::<256>() {
+            return Some(Page {
+                bytes: *full,
+                len: PAGE_SIZE,
+            });
+        }
         if bytes.is_empty() || bytes.len() > PAGE_SIZE {
             return None;
         }

@@ -3,7 +3,7 @@
 ghost use Rattle.std.specs.Prelude.{◌≡◌, ◌⊎◌, ◌+◌, ◌≤◌, ◌^◌, None, Some, IfSome, IfOk, IfErr, OnOk, length};
 ghost use Rattle.nor_device.specs.declared.nor.StepEnd.{StepEnd};
 ghost use Rattle.nor_device.specs.Flash.{len_of, end_of, applied, IsInOnePage};
-ghost use Rattle.nor_device.specs.Nor.{one_more};
+ghost use Rattle.nor_device.specs.Nor.{one_more, HasCause, KeepsSetting};
 ghost use Rattle.nor_device.specs.Make.{IsMissed};
 
 use crate::*;
@@ -59,8 +59,10 @@ fn make_two<D: Nor>(device: &mut D, first: &Step, second: &Step) -> Result<(), N
     ensures counted { OnOk result (D.steps device.new ≡ one_more (one_more (D.steps device.old))) }
     ensures made { OnOk result (IfSome (D.bytes device.old) (λ flash.
         D.bytes device.new ≡ Some (applied (applied flash first.now) second.now))) }
-    ensures done { OnOk result
+    ensures first_done { OnOk result
         (D.may_end (D.setting device.old) (one_more (D.steps device.old)) StepEnd.Done) }
+    ensures second_done { OnOk result
+        (D.may_end (D.setting device.old) (one_more (one_more (D.steps device.old))) StepEnd.Done) }
     ensures missed { IfErr result (λ why.
         IsMissed D.may_end D.may_tear D.may_refuse D.must_refuse
         (D.setting device.old) first.now (D.steps device.old) (D.steps device.new)
@@ -69,6 +71,9 @@ fn make_two<D: Nor>(device: &mut D, first: &Step, second: &Step) -> Result<(), N
         IsMissed D.may_end D.may_tear D.may_refuse D.must_refuse
         (D.setting device.old) second.now (one_more (D.steps device.old)) (D.steps device.new)
         (Some (applied flash first.now)) (D.bytes device.new) why)) }
+    ensures setting { KeepsSetting D.size D.setting device.old device.new }
+    ensures cause { HasCause
+        (D.faults device.old) (D.faults device.new) (D.off device.new) result }
 {
     make_step(device, first)?;
     make_step(device, second)
@@ -84,6 +89,7 @@ fn a_program_clears_bits_and_an_erase_sets_them(rt: HostRuntime) -> Result<(), F
     assert_eq!(rt; byte_after(&mut device, &program), Ok(0x0C), "a program");
     let erase = Step::Erase { sector: 0 };
     assert_eq!(rt; byte_after(&mut device, &erase), Ok(0xFF), "an erase");
+    assert_eq!(rt; make_two(&mut device, &program, &erase), Ok(()), "both in a row");
     let bytes = device.into_bytes();
     assert_eq!(rt; bytes[4095], 0xFF, "the last byte of the sector");
     assert_eq!(rt; bytes[4096], 0x3C, "the first byte of the next sector");
