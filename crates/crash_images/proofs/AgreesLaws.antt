@@ -1,8 +1,7 @@
 -- What stays of a flash, from step to step and from part to part.
-use Rattle.std.specs.Prelude.{◌≡◌, ℕ, ◌+◌, ◌<◌, ◌≤◌, List, [], ◌∷◌, length, drop, slice_index, refl, All}
+use Rattle.std.specs.Prelude.{◌≡◌, ℕ, ◌+◌, ◌<◌, ◌≤◌, List, [], ◌∷◌, length, drop, slice_index, refl}
 use Rattle.std.proofs.Common.{sym, ◌∙◌, subst, inl, inr, arith, length-drop}
 use Rattle.std.proofs.lemmas.List.{ext_get_or, length-take, get_or-take, get_or-drop}
-use Rattle.std.proofs.lemmas.List.Elements.{All-get_or, All-from_get_or}
 use Rattle.nor_device.specs.declared.step.Step.{Step}
 use Rattle.nor_device.specs.Flash.{start_of, end_of, applied}
 use Rattle.nor_device.specs.Torn.{Torn}
@@ -65,9 +64,9 @@ beside_wider start end low high i from to (inl below) = inl (omega arith)
 beside_wider start end low high i from to (inr above) = inr (omega arith)
 
 -- a torn flash has changed only in the step's range
-pub torn_within : (flash left : List ℕ) (step : Step) → Torn flash step left
+pub within_of_torn : (flash left : List ℕ) (step : Step) → Torn flash step left
     → ChangesWithin (start_of step) (end_of step) flash left
-torn_within flash left step torn = record {
+within_of_torn flash left step torn = record {
   same =
       record {
         same_length = torn.same_length;
@@ -114,11 +113,11 @@ left_within start end flash (step ∷ steps) left within after =
           (within_self start end flash)
       | inr more ↦ elim more [
         | inl torn ↦ within_wider (start_of step) (end_of step) start end flash left
-            within.0.from within.0.to (torn_within flash left step torn)
+            within.0.from within.0.to (within_of_torn flash left step torn)
         | inr later ↦ within_twice start end flash (applied flash step) left
             (within_wider (start_of step) (end_of step) start end flash (applied flash step)
             within.0.from within.0.to
-            (torn_within flash (applied flash step) step (torn_applied flash step)))
+            (within_of_torn flash (applied flash step) step (torn_applied flash step)))
             (left_within start end (applied flash step) steps left within.1 later)
       ]
     ]
@@ -129,11 +128,3 @@ pub left_agrees : (start end : ℕ) (flash : List ℕ) (steps : List Step) (left
     → Agrees (IsBeside start end) flash left
 left_agrees start end flash steps left within after =
     (left_within start end flash steps left within after).same
-
--- and a flash of bytes is one of bytes
-pub within_small : (start end : ℕ) (old new : List ℕ) → ChangesWithin start end old new
-    → All (λ b. b < 256) old → All (λ b. b < 256) new
-within_small start end old new within small =
-    All-from_get_or (λ b. b < 256) new 0 (λ i inside.
-    let there : i < length old = omega (arith, inside, within.same.same_length) in
-    within.small i there (All-get_or (λ b. b < 256) old i 0 there small))

@@ -2,10 +2,9 @@
 use Rattle.std.specs.Prelude.{◌≡◌, ℕ, List, [], ◌∷◌, ◌++◌, Option, Some, None}
 use Rattle.std.proofs.Common.{sym, ◌∙◌, ap, subst}
 use Rattle.nor_device.specs.declared.step.Step.{Step}
-use Rattle.nor_device.specs.Flash.{applied, after_steps}
 use Rattle.nor_device.specs.Make.{IsAfter, IsTornBy}
 use Rattle.nor_device.proofs.FlashLaws.{after_steps_append}
-use Rattle.crash_images.specs.Crash.{LeftAfter, IsAfterAll, IsLeftOf}
+use Rattle.crash_images.specs.Crash.{IsAfterAll, IsLeftOf}
 use Rattle.crash_images.proofs.LeftLaws.{left_begin, left_torn, left_more, left_front, left_back}
 
 -- no step was begun

@@ -15,7 +15,7 @@ use Rattle.nor_device.proofs.TornLaws.{torn_applied}
 use Rattle.crash_images.specs.Tear.{with_mask_bits, torn_part, torn_by, is_erase}
 use Rattle.crash_images.proofs.TearLaws.{tear_is_torn, applied_masked, torn_masked, applied_nothing, applied_more, applied_erased, length_with_mask_bits}
 use Rattle.crash_images.specs.Agrees.{ChangesWithin, StaysOutside}
-use Rattle.crash_images.proofs.AgreesLaws.{torn_within, within_wider, within_twice}
+use Rattle.crash_images.proofs.AgreesLaws.{within_of_torn, within_wider, within_twice}
 use Rattle.crash_images.specs.TearStep.{MayRefuse, TearLeaves, IsTornByNumber}
 use Rattle.crash_images.specs.Cut.{CutMayEnd}
 use Rattle.crash_images.specs.declared.cut.CutSetting.{CutSetting}
@@ -93,7 +93,7 @@ put_outside at end bytes (Some flash) new long after =
       applied flash step,
       after,
       within_wider at (at + length bytes) at end flash (applied flash step) (omega arith) long
-          (torn_within flash (applied flash step) step (torn_applied flash step)),
+          (within_of_torn flash (applied flash step) step (torn_applied flash step)),
     )
 
 -- and where a page was refused, too
@@ -108,7 +108,7 @@ put_refused at end next page (Some flash) mid new low high one two =
       torn.1,
       within_twice at end flash one.0 torn.0 one.2
           (within_wider next (next + length page) at end one.0 torn.0 low high
-          (torn_within one.0 torn.0 step torn.2)),
+          (within_of_torn one.0 torn.0 step torn.2)),
     )
 
 -- the front and the next page are a longer front
@@ -215,7 +215,7 @@ erase_refused erase erases at len None same mid new at_is len_is is one two = tt
 erase_refused erase erases at len (Some flash) same mid new at_is len_is is one two =
     let one_on = subst (λ (m : Option (List ℕ)). IsAfter erase m mid) is one in
     let two_on = subst (λ (m : Option (List ℕ)). StaysOutside at (at + len) m new) one_on two in
-    let first = torn_within flash (applied flash erase) erase (torn_applied flash erase) in
+    let first = within_of_torn flash (applied flash erase) erase (torn_applied flash erase) in
     let low : start_of erase ≤ at = omega arith in
     let high : at + len ≤ end_of erase = omega arith in
     let second = within_wider at (at + len) (start_of erase) (end_of erase)

@@ -111,7 +111,7 @@ impl<D: Nor> CutNor<D> {
 
     /// The chosen step needs no poll but the one that is refused: its first.
     pub fn chosen_step_needs_no_poll(&self)
-        ensures { IsBad self.now.cut self.now.fail self.now.steps
+        ensures first { IsBad self.now.cut self.now.fail self.now.steps
             → IsSome (running_by self.now.health (D.running self.now.inner))
             → left_by self.now.health (D.left self.now.inner) ≡ 0 }
     {
@@ -120,7 +120,7 @@ impl<D: Nor> CutNor<D> {
 
     /// Gives the device inside back.
     pub fn into_inner(self) -> D
-        requires { running_by self.health (D.running self.inner) ≡ None }
+        requires idle { running_by self.health (D.running self.inner) ≡ None }
         ensures exact { result ≡ self.inner }
     {
         let CutNor {

@@ -10,8 +10,8 @@ mod tear_step;
 pub use crash::Crash;
 pub use cut::{CutNor, CutSetting, Health};
 pub use laws::{
-    laws_of_chosen_steps, laws_of_power_loss, laws_of_tear_numbers,
-    laws_of_told_bytes, power_loss_leaves, setting_of_cut_nor_over_ram_nor,
+    laws_of_chosen_steps, laws_of_power_loss, laws_of_tear_numbers, laws_of_told_bytes,
+    power_loss_leaves, setting_of_cut_nor_over_ram_nor,
 };
 pub use tear::torn_byte;
 

@@ -16,7 +16,7 @@ const WINDOW: u64 = 0x0006_0002_0FF0;
 
 /// As many bytes of one value.
 fn filled(alloc: Global, byte: u8, size: usize) -> Result<Vec<u8>, AllocError>
-    ensures { IfOk result (λ bytes. length bytes.items ≡ size) }
+    ensures length { IfOk result (λ bytes. length bytes.items ≡ size) }
 {
     Ok(vec![in alloc; byte; size]?)
 }

@@ -11,7 +11,7 @@ use crate::step::Step;
 
 /// Polls the running step to its end, at most as often as the device says.
 pub fn finish<D: Nor>(device: &mut D) -> Result<(), NorFault>
-    requires { IsSome (D.running device.old) }
+    requires running { IsSome (D.running device.old) }
     ensures idle { D.running device.new ≡ None }
     ensures made { OnOk result
         (IsMade (D.running device.old) (D.bytes device.old) (D.bytes device.new)) }

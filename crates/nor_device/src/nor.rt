@@ -75,15 +75,15 @@ pub trait Nor {
     /// Where the step of this number is refused, it may leave the last flash of the first.
     ghost may_tear: { Self.Setting → ℕ → List ℕ → Step → List ℕ → Type 0 };
 
-    /// Behind the step of this number a `read` or `start` may be refused so.
+    /// After the step of this number a `read` or `start` may be refused so.
     ghost may_refuse: { Self.Setting → ℕ → NorFault → Type 0 };
 
-    /// Behind the step of this number every `read` and `start` is refused.
+    /// After the step of this number every `read` and `start` is refused.
     ghost must_refuse: { Self.Setting → ℕ → Type 0 };
 
     /// How many bytes there are.
     fn size(&self) -> u32
-        ensures { result ≡ size self.now };
+        ensures exact { result ≡ size self.now };
 
     /// The bytes from the address on, as many as `out` has.
     fn read(&mut self, at: u32, out: &mut [u8]) -> Result<(), NorFault>

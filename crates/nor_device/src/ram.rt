@@ -36,7 +36,7 @@ impl Model for RamNor {
 impl RamNor {
     /// A device over these bytes, as many as a flash may have. It is idle and on.
     pub fn of_bytes(bytes: Vec<u8>, polls: u32) -> RamNor
-        requires { IsFlashSize (length bytes.items) }
+        requires size { IsFlashSize (length bytes.items) }
         ensures bytes { result.bytes ≡ bytes.items }
         ensures polls { result.polls ≡ polls }
         ensures idle { result.running ≡ None }
@@ -53,8 +53,8 @@ impl RamNor {
 
     /// Gives the bytes back.
     pub fn into_bytes(self) -> Vec<u8>
-        requires { self.running ≡ None }
-        ensures { result.items ≡ self.bytes }
+        requires idle { self.running ≡ None }
+        ensures exact { result.items ≡ self.bytes }
     {
         self.bytes
     }
@@ -98,7 +98,7 @@ impl Nor for RamNor {
     }
 
     fn read(&mut self, at: u32, out: &mut [u8]) -> Result<(), NorFault>
-        requires { at + length out.old ≤ length self.old.bytes }
+        requires inside { at + length out.old ≤ length self.old.bytes }
         ensures ok { IsOk result }
         ensures bytes { out.new ≡ part_of self.old.bytes at (length out.old) }
         ensures same { self.new ≡ self.old }
@@ -109,11 +109,11 @@ impl Nor for RamNor {
     }
 
     fn start(&mut self, step: &Step) -> Result<(), NorFault>
-        requires { end_of step.now ≤ length self.old.bytes }
+        requires inside { end_of step.now ≤ length self.old.bytes }
         ensures ok { IsOk result }
         ensures begun { self.new ≡ begun self.old step.now }
     {
-        self.running = Some(step.copy());
+        step.copy_to(&mut self.running);
         self.left = self.polls;
         self.steps = self.steps.saturating_add(1);
         Ok(())
@@ -138,8 +138,8 @@ impl Nor for RamNor {
 
 /// Makes the step in the bytes.
 fn apply(bytes: &mut [u8], step: &Step)
-    requires { end_of step.now ≤ length bytes.old }
-    ensures { bytes.new ≡ applied bytes.old step.now }
+    requires inside { end_of step.now ≤ length bytes.old }
+    ensures exact { bytes.new ≡ applied bytes.old step.now }
 {
     match step {
         Step::Erase { sector } => {
@@ -152,8 +152,8 @@ fn apply(bytes: &mut [u8], step: &Step)
 
 /// Sets the bytes of the range to 0xFF.
 fn erase(bytes: &mut [u8], start: usize, len: usize)
-    requires { start + len ≤ length bytes.old }
-    ensures { bytes.new ≡ take start bytes.old
+    requires inside { start + len ≤ length bytes.old }
+    ensures exact { bytes.new ≡ take start bytes.old
         ++ replicate len 255 ++ drop (start + len) bytes.old }
 {
     bytes[start..start + len].fill(0xFF);
@@ -161,8 +161,8 @@ fn erase(bytes: &mut [u8], start: usize, len: usize)
 
 /// ANDs the data into the bytes.
 fn program(bytes: &mut [u8], start: usize, data: &[u8])
-    requires { start + length «data».now ≤ length bytes.old }
-    ensures { bytes.new ≡ take start bytes.old
+    requires inside { start + length «data».now ≤ length bytes.old }
+    ensures exact { bytes.new ≡ take start bytes.old
         ++ anded (part_of bytes.old start (length «data».now)) «data».now
         ++ drop (start + length «data».now) bytes.old }
 {
@@ -171,8 +171,8 @@ fn program(bytes: &mut [u8], start: usize, data: &[u8])
 
 /// ANDs each byte with the one of the data.
 fn and_into(part: &mut [u8], data: &[u8])
-    requires { length part.old ≡ length «data».now }
-    ensures { part.new ≡ anded part.old «data».now }
+    requires length { length part.old ≡ length «data».now }
+    ensures exact { part.new ≡ anded part.old «data».now }
 {
     for i in 0..part.len() {
         part[i] &= data[i];

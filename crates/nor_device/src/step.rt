@@ -1,6 +1,6 @@
 //! The two commands that change a NOR flash: the erase of a sector sets bits, a program clears some.
 
-ghost use Rattle.std.specs.Prelude.{◌≡◌, ◌≤◌, ◌^◌};
+ghost use Rattle.std.specs.Prelude.{◌≡◌, ◌≤◌, ◌^◌, Some};
 
 use crate::page::Page;
 
@@ -21,13 +21,28 @@ impl Step {
 
     /// The first address and the length of what the step may change.
     pub fn range(&self) -> (u32, u32)
-        requires { end_of self.now ≤ 2 ^ 32 }
+        requires small { end_of self.now ≤ 2 ^ 32 }
         ensures first { result.0 ≡ start_of self.now }
         ensures length { result.1 ≡ len_of self.now }
     {
         match self {
             Step::Erase { sector } => (*sector * SECTOR_SIZE, SECTOR_SIZE),
             Step::Program { at, bytes } => (*at, bytes.bytes().len() as u32),
+        }
+    }
+
+    /// Keeps a copy of the step there, in one move of its bytes.
+    pub(crate) fn copy_to(&self, place: &mut Option<Step>)
+        ensures exact { place.new ≡ Some self.now }
+    {
+        match self {
+            Step::Erase { sector } => *place = Some(Step::Erase { sector: *sector }),
+            Step::Program { at, bytes } => {
+                *place = Some(Step::Program {
+                    at: *at,
+                    bytes: bytes.copy(),
+                })
+            }
         }
     }
 

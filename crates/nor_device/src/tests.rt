@@ -14,7 +14,7 @@ const SIZE: usize = 1_048_576;
 
 /// As many bytes of one value.
 fn filled(alloc: Global, byte: u8, size: usize) -> Result<Vec<u8>, AllocError>
-    ensures { IfOk result (λ bytes. length bytes.items ≡ size) }
+    ensures length { IfOk result (λ bytes. length bytes.items ≡ size) }
 {
     Ok(vec![in alloc; byte; size]?)
 }
@@ -89,7 +89,11 @@ fn a_program_clears_bits_and_an_erase_sets_them(rt: HostRuntime) -> Result<(), F
     assert_eq!(rt; byte_after(&mut device, &program), Ok(0x0C), "a program");
     let erase = Step::Erase { sector: 0 };
     assert_eq!(rt; byte_after(&mut device, &erase), Ok(0xFF), "an erase");
-    assert_eq!(rt; make_two(&mut device, &program, &erase), Ok(()), "both in a row");
+    assert_eq!(rt;
+        make_two(&mut device, &program, &erase),
+        Ok(()),
+        "both in a row"
+    );
     let bytes = device.into_bytes();
     assert_eq!(rt; bytes[4095], 0xFF, "the last byte of the sector");
     assert_eq!(rt; bytes[4096], 0x3C, "the first byte of the next sector");

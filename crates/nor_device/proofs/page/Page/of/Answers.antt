@@ -1,4 +1,4 @@
-use Rattle.std.proofs.Common.{◌≡◌, ◌≤◌, ◌∙◌, ap, arith, length, take, subst, sym}
+use Rattle.std.proofs.Common.{◌≡◌, ◌≤◌, ◌∙◌, ap, arith, length, take}
 use Rattle.std.proofs.lemmas.List.{take_all}
 use Rattle.nor_device.proofs.page.Page.of.Goals as goal
 
