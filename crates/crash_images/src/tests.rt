@@ -2,6 +2,7 @@
 
 ghost use Rattle.std.specs.Prelude.{◌≡◌, ◌≤◌, ◌^◌, ◌∷◌, [], None, IfOk, OnOk, OnErr, length};
 ghost use Rattle.nor_device.specs.Flash.{end_of, IsInOnePage};
+ghost use Rattle.nor_device.specs.Nor.{KeepsSetting};
 ghost use Rattle.crash_images.specs.Crash.{IsAfterAll, IsLeftOf};
 
 use crate::*;
@@ -36,6 +37,7 @@ fn rewrite<D: Nor>(device: &mut D, erase: &Step, program: &Step) -> Result<(), N
         (IsAfterAll (erase.now ∷ program.now ∷ []) (D.bytes device.old) (D.bytes device.new)) }
     ensures left { OnErr result
         (IsLeftOf (erase.now ∷ program.now ∷ []) (D.bytes device.old) (D.bytes device.new)) }
+    ensures setting { KeepsSetting D.size D.setting device.old device.new }
 {
     make_step(device, erase)?;
     make_step(device, program)
