@@ -1,1 +1,3 @@
-pub mod ReportLemmas
+-- Lemmas on the words of specs/.
+pub mod PutLemmas
+pub mod OutcomeLemmas

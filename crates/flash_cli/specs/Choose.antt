@@ -8,11 +8,13 @@ use Rattle.partition_table.specs.Table.{table_of, layout_of}
 use Rattle.otadata.specs.declared.entry.Entry.{Entry}
 use Rattle.otadata.specs.Entry.{entry_of}
 use Rattle.boot_select.specs.Choice.{named_of}
-use Rattle.flash_cli.specs.declared.choose.Choice.{Choice}
+use Rattle.flash_cli.specs.declared.choice.Choice.{Choice}
 use Rattle.nor_device.specs.Ram.{is_flash_size}
 use Rattle.nor_device.specs.declared.step.TheConstants.{SECTOR_SIZE}
 use Rattle.flash_cli.specs.declared.refusal.Refusal.{Refusal}
 use Rattle.flash_cli.specs.declared.refusal.Refusal.TheVariants.{FlashSize, Table}
+use Rattle.flash_cli.specs.Answer.{Answer, text_only}
+use Rattle.flash_cli.specs.Text.{choice_text}
 
 -- the entry of this sector of the OTA data
 abbrev pub entry_in : List ℕ → Places → ℕ → Entry
@@ -48,3 +50,12 @@ unfoldable pub choice_of : List ℕ → Result Choice Refusal
 choice_of flash =
     if is_flash_size (length flash) then choice_by flash (layout_in flash)
     else Err (FlashSize (length flash))
+
+-- the answer of the command on a flash: the lines of its choice
+abbrev pub answer_of_choice : Result Choice Refusal → Result Answer Refusal
+answer_of_choice (Ok choice) = Ok (text_only (choice_text choice))
+answer_of_choice (Err why) = Err why
+
+-- what the command comes to on a flash
+abbrev pub choose_answer : List ℕ → Result Answer Refusal
+choose_answer flash = answer_of_choice (choice_of flash)

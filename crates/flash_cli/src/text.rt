@@ -1,18 +1,15 @@
 //! The lines that the program prints.
 
-ghost use Rattle.std.specs.Prelude.{◌≡◌, ◌≤◌, ◌++◌, OnOk, codes, option_copied, decimal, List, ℕ};
-ghost use Rattle.flash_cli.specs.Text.{state_name, state_text, app_text, verdict_text, entry_line, names_line, choice_text, refusal_line, table_text};
-ghost use Rattle.flash_cli.specs.Command.{names_of, shown};
+ghost use Rattle.std.specs.Prelude.{◌≡◌, ◌≤◌, ◌++◌, OnOk, codes, map, option_copied, decimal, List, ℕ};
+ghost use Rattle.flash_cli.specs.Text.{state_name, state_text, app_text, verdict_text, entry_line, names_line, choice_text, refusal_line, table_text, usage_line};
+ghost use Rattle.flash_cli.specs.Command.{joined, shown_row};
 
-use crate::choose::Choice;
-use crate::command::Command;
+use crate::choice::Choice;
+use crate::command::{Row, table};
 use crate::refusal::Refusal;
 use otadata::{Entry, state};
 use partition_table::{App, TableBad};
 use pipe_ends::{Memory, put_hex, put_number};
-
-/// The line that says how the program is called.
-pub(crate) const USAGE: &str = "usage: flash_cli choose\n";
 
 /// Appends a text.
 pub(crate) fn put_text(out: &mut Vec<u8>, text: &str) -> Result<(), Memory>
@@ -99,21 +96,16 @@ fn put_app(out: &mut Vec<u8>, app: App) -> Result<(), Memory>
     }
 }
 
-/// Appends the line of a refusal of a command.
+/// Appends the line of a refusal. The name is that of the absent file.
 #[tactic(auto, unfolding(crate::specs::Text::refusal_line))]
-pub(crate) fn put_refusal(
-    out: &mut Vec<u8>,
-    command: Command<'_>,
-    why: Refusal,
-) -> Result<(), Memory>
-    ensures { OnOk result (out.new.items
-        ≡ out.old.items ++ refusal_line (names_of (shown command.entry)) why) }
+pub(crate) fn put_refusal(out: &mut Vec<u8>, name: &str, why: Refusal) -> Result<(), Memory>
+    ensures { OnOk result (out.new.items ≡ out.old.items ++ refusal_line name.now why) }
 {
     put_text(out, "refused: ")?;
     match why {
-        Refusal::Absent { file } => {
+        Refusal::Absent { .. } => {
             put_text(out, "absent ")?;
-            put_text(out, command.name(file))?;
+            put_text(out, name)?;
         }
         Refusal::FlashSize { size } => {
             put_text(out, "flash size ")?;
@@ -122,6 +114,31 @@ pub(crate) fn put_refusal(
         Refusal::Table(why) => put_text(out, table_text(why))?,
     }
     put_text(out, "\n")
+}
+
+/// Appends the line that says how the program is called: the words of the table of commands.
+#[tactic(auto, unfolding(crate::specs::Text::usage_line))]
+pub(crate) fn put_usage(out: &mut Vec<u8>) -> Result<(), Memory>
+    ensures { OnOk result (out.new.items ≡ out.old.items ++ usage_line) }
+{
+    put_text(out, "usage: flash_cli ")?;
+    put_words(out, &table())?;
+    put_text(out, "\n")
+}
+
+/// Appends the words of rows of the table of commands, with a bar between two.
+fn put_words(out: &mut Vec<u8>, rows: &[Row]) -> Result<(), Memory>
+    ensures { OnOk result (out.new.items ≡ out.old.items ++ joined (map shown_row rows.now)) }
+{
+    match rows {
+        [] => Ok(()),
+        [row] => put_text(out, row.word),
+        [row, more @ ..] => {
+            put_text(out, row.word)?;
+            put_text(out, "|")?;
+            put_words(out, more)
+        }
+    }
 }
 
 /// What is wrong with a table.

@@ -22,6 +22,7 @@ impl Model for Calls {
 }
 
 impl Calls {
+    /// No call so far, of which these are to fail.
     pub(crate) fn new(failing: Vec<u64>) -> Calls
         ensures { result ≡ record { failing = failing.items; made = 0; faults = 0 } }
     {

@@ -38,6 +38,7 @@ pub fn hex_digits_spell_their_number()
         → digits_value 16 (hex_text digits number) ≡ number }
 {}
 
+/// The character of a digit from 0 to 15.
 fn hex_digit(digit: u64) -> u8
     requires { digit < 16 }
     ensures { result ≡ hex_glyph digit }

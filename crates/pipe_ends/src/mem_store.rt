@@ -19,11 +19,11 @@ pub struct MemStore {
 
 // Clauses see the files by name, and the counted calls.
 impl Model for MemStore {
-    ghost use Rattle.pipe_ends.specs.MemStore.{Shelf, shelf_code, files_of};
+    ghost use Rattle.pipe_ends.specs.MemStore.{StoreState, store_code, files_of};
 
-    ghost Value = { Shelf };
+    ghost Value = { StoreState };
 
-    ghost coded = { shelf_code };
+    ghost coded = { store_code };
 
     ghost view = { λ s. record { files = files_of s.files.items; calls = s.calls } };
 }
@@ -91,7 +91,7 @@ impl Store for MemStore {
     }
 }
 
-// The place of the first file with this name.
+/// The place of the first file with this name.
 fn place_of(files: &[File], name: &str) -> Option<usize>
     ensures { result ≡ position (has_name name.now) files.now }
 {
