@@ -68,11 +68,3 @@ fn a_table_of_another_form_is_refused(rt: HostRuntime) {
     let read = Table::read(&table(0xC00, 0), 0xF000);
     assert!(rt; read.is_ok(), "OTA data that end with the flash");
 }
-
-#[test]
-fn the_layout_of_a_flash_is_that_of_its_table(rt: HostRuntime) {
-    let mut flash = [0xFF; 0x9000];
-    flash[0x8000..0x8C00].copy_from_slice(&table(0xC00, 0));
-    assert_eq!(rt; layout_in(&flash), Err(TableBad::Later), "a flash without room");
-    assert_eq!(rt; layout_in(&[0; 0x8C00]), Err(TableBad::Later), "no table");
-}

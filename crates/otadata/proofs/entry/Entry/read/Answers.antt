@@ -1,5 +1,5 @@
 -- Each field is read at its place.
-use Rattle.std.proofs.Common.{◌≡◌, ◌∙◌, ◌≤◌, length, ap, arith, sym, subst}
+use Rattle.std.proofs.Common.{◌≡◌, ◌∙◌, length, ap, arith, sym, subst}
 use Rattle.otadata.specs.Entry.{IsStored, entry_bytes}
 use Rattle.otadata.proofs.EntryLemmas.{entry_bytes-all, entry_of-fields, stored_by}
 use Rattle.otadata.proofs.entry.Entry.read.Goals as goal
