@@ -1,3 +1,4 @@
 -- Lemmas on the words of specs/.
 pub mod PutLemmas
 pub mod OutcomeLemmas
+pub mod CallLaws

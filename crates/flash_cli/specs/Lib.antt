@@ -6,3 +6,4 @@ pub mod Answer
 pub mod Reading
 pub mod Choose
 pub mod Report
+pub mod Laws

@@ -7,6 +7,7 @@ mod choose;
 mod command;
 mod error;
 mod files;
+mod laws;
 mod refusal;
 mod status;
 #[cfg(test)]
