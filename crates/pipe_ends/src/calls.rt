@@ -35,7 +35,7 @@ impl Calls {
 
     /// Counts one more call, and whether it fails.
     pub(crate) fn next_fails(&mut self) -> bool
-        ensures fails { result ≡ fails_next self.old }
+        ensures exact { result ≡ fails_next self.old }
         ensures counted { self.new ≡ after_call self.old }
         ensures later { self.old.faults ≤ self.new.faults }
     {

@@ -32,6 +32,7 @@ impl<'a, R: Files + AllocGlobal> Store for DirStore<'a, R> {
 
     ghost faults = { λ store. store.faults };
 
+    /// The bytes of the file of this name, read whole.
     fn get(&mut self, alloc: Global, name: &str) -> Result<Vec<u8>, GetFault> {
         match read_whole(self.rt, alloc, name) {
             Ok(bytes) => Ok(bytes),
@@ -46,6 +47,7 @@ impl<'a, R: Files + AllocGlobal> Store for DirStore<'a, R> {
         }
     }
 
+    /// Gives the file of this name these bytes, whole or not at all.
     fn put(&mut self, _alloc: Global, name: &str, bytes: &[u8]) -> Result<(), PutFault> {
         match write_whole(self.rt, name, bytes) {
             Ok(()) => Ok(()),
@@ -79,6 +81,7 @@ impl<'a, R: Print> Sink for StdSink<'a, R> {
 
     ghost faults = { λ sink. sink.faults };
 
+    /// Writes all of the bytes.
     fn push(&mut self, _alloc: Global, bytes: &[u8]) -> Result<(), PushFault> {
         match self.rt.write_all(bytes) {
             Ok(()) => Ok(()),

@@ -15,7 +15,7 @@ returns-in_default-clause-absent c =
     let seen : files_of c.self.inside.files.items ≡ c.args.self.now.files = ap (λ (s : StoreState). s.files) c.self.view_is in
     let none : position (has_name c.args.name.now) c.self.inside.files.items ≡ None = cc in
     let calls : fails_next c.self.inside.calls ≡ fails_next c.args.self.now.calls = ap (λ (s : StoreState). fails_next s.calls) c.self.view_is in
-    (λ _. (sym calls ∙ sym c.next_fails.ensures.fails ∙ c.if-next_fails.false, rw (← seen) (get_none _ _ none)), λ _. refl)
+    (λ _. (sym calls ∙ sym c.next_fails.ensures.exact ∙ c.if-next_fails.false, rw (← seen) (get_none _ _ none)), λ _. refl)
 
 -- A file of the list has the name.
 pub returns-in_err-from_slice-clause-absent : goal.returns-in_err-from_slice-clause-absent

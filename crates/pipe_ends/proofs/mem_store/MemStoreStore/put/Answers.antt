@@ -10,8 +10,8 @@ use Rattle.pipe_ends.proofs.FilesLemmas.{files_of-set, files_of_push, same_state
 use Rattle.pipe_ends.proofs.mem_store.MemStoreStore.put.Goals as goal
 
 -- The first file that has the name gets the bytes.
-pub returns-in-Some-clause-put : goal.returns-in-Some-clause-put
-returns-in-Some-clause-put c =
+pub returns-in-Some-clause-ok : goal.returns-in-Some-clause-ok
+returns-in-Some-clause-ok c =
     let files = c.self.inside.files.items in
     let name = c.args.name.now in
     let some : position (has_name name) files ≡ Some c.in-Some.place = cc in
@@ -24,8 +24,8 @@ returns-in-Some-clause-put c =
     ) (c.next_fails.ensures.counted ∙ ap after_call (ap (λ (s : StoreState). s.calls) c.self.view_is))
 
 -- A file of the name stands after the others.
-pub returns-in_ok-push-in-None-clause-put : goal.returns-in_ok-push-in-None-clause-put
-returns-in_ok-push-in-None-clause-put c =
+pub returns-in_ok-push-in-None-clause-ok : goal.returns-in_ok-push-in-None-clause-ok
+returns-in_ok-push-in-None-clause-ok c =
     let files = c.self.inside.files.items in
     let name = c.args.name.now in
     let none : position (has_name name) files ≡ None = cc in
