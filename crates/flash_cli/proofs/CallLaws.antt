@@ -1,14 +1,13 @@
 -- What follows from the clauses of the top call.
-use Rattle.std.proofs.Common.{◌≡◌, ℕ, List, [], Option, Some, None, Result, Ok, Err, refl, sym, ap, ◌∙◌}
+use Rattle.std.proofs.Common.{◌≡◌, [], Option, Some, None, Result, Ok, Err, refl, sym, ap, ◌∙◌}
 use Rattle.pipe_ends.specs.Store.{Files}
 use Rattle.flash_cli.specs.declared.refusal.Refusal.{Refusal}
-use Rattle.flash_cli.specs.declared.status.Status.{Status}
 use Rattle.flash_cli.specs.declared.status.Status.TheVariants.{Done, Usage, Refused, StoreFault, DeviceFault, PowerCut, Memory, SinkFault}
 use Rattle.flash_cli.specs.Command.{Command}
-use Rattle.flash_cli.specs.Answer.{Answer, Outcome, TellsPuts}
+use Rattle.flash_cli.specs.Answer.{Answer, Outcome}
 use Rattle.flash_cli.specs.Reading.{Absence}
-use Rattle.flash_cli.specs.Report.{IsOutcome, EndsWhole, outcome_in, outcome_of, reading_of}
-use Rattle.flash_cli.specs.Laws.{UsageIsOfNoCommand, NoCommandIsUsage, ToldFilesDetermine, EndsAsIn, RefusedPutsNothing, FaultlessIsWork}
+use Rattle.flash_cli.specs.Report.{IsOutcome, outcome_in, outcome_of, reading_of}
+use Rattle.flash_cli.specs.Laws.{UsageIsOfNoCommand, NoCommandIsUsage, ToldFilesDetermine, RefusedPutsNothing, FaultlessIsWork}
 use Rattle.flash_cli.proofs.OutcomeLemmas.{comes_only}
 
 -- a command never comes to usage

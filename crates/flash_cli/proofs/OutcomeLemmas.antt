@@ -1,5 +1,5 @@
 -- What words come to: that there is an outcome for each store, and which one where it tells its files.
-use Rattle.std.proofs.Common.{◌≡◌, ◌≢◌, ℕ, zero, suc, List, [], ◌∷◌, map, Option, Some, None, Result, Ok, Err, refl, sym, ap, ◌∙◌}
+use Rattle.std.proofs.Common.{◌≡◌, ◌≢◌, ℕ, suc, List, [], ◌∷◌, map, Option, Some, None, Result, Ok, Err, refl, sym, ap, ◌∙◌}
 use Rattle.std.specs.Prelude.{MatchOption, IsSome}
 use Rattle.std.specs.FinMap.{get}
 use Rattle.pipe_ends.specs.declared.file.File.{File}
@@ -15,15 +15,20 @@ use Rattle.flash_cli.proofs.PutLemmas.{puts_none}
 pub comes_in : {A : Type 0} (files : Files) (number : ℕ) (reading : Reading A)
     → ComesTo (Some files) number reading (read_in files number reading)
 comes_in files number (Ended value) = refl
-comes_in files number (Asks name next) = (get files name, (refl,
+comes_in files number (Asks name next) = (
+  get files name,
+  (
+    refl,
     elim (get files name) as (λ answer. MatchOption answer
-    (by_answer (Err (record { file = number; name = name })) (λ bytes. read_in files (suc number) (next bytes)) answer
-    ≡ Err (record { file = number; name = name }))
-    (λ bytes. ComesTo (Some files) (suc number) (next bytes)
-    (by_answer (Err (record { file = number; name = name })) (λ bytes. read_in files (suc number) (next bytes)) answer))) [
-      | None ↦ refl
-      | Some bytes ↦ comes_in files (suc number) (next bytes)
-    ]))
+        (by_answer (Err (record { file = number; name = name })) (λ bytes. read_in files (suc number) (next bytes)) answer
+        ≡ Err (record { file = number; name = name }))
+        (λ bytes. ComesTo (Some files) (suc number) (next bytes)
+        (by_answer (Err (record { file = number; name = name })) (λ bytes. read_in files (suc number) (next bytes)) answer))) [
+          | None ↦ refl
+          | Some bytes ↦ comes_in files (suc number) (next bytes)
+        ],
+  ),
+)
 
 -- and to nothing else
 pub comes_only : {A : Type 0} (files : Files) (number : ℕ) (reading : Reading A) (result : Result A Absence)
@@ -46,12 +51,14 @@ some_outcome told None = (_, refl)
 some_outcome None (Some command) =
     let some = some_result (reading_of command) in
     (outcome_of some.0, record { result = some.0; comes = some.1; is = refl })
-some_outcome (Some files) (Some command) =
-    (outcome_in files (Some command), record {
-      result = read_in files 0 (reading_of command);
-      comes = comes_in files 0 (reading_of command);
-      is = refl;
-    })
+some_outcome (Some files) (Some command) = (
+  outcome_in files (Some command),
+  record {
+    result = read_in files 0 (reading_of command);
+    comes = comes_in files 0 (reading_of command);
+    is = refl;
+  },
+)
 
 -- a call that put and pushed nothing ended before its text
 pub nothing_done : (told put : Option Files) (command : Option Command) (pushed : Option (List ℕ))

@@ -1,5 +1,5 @@
 -- What a command comes to: a text, and the files that it puts.
-use Rattle.std.specs.Prelude.{◌≡◌, ℕ, List, [], ◌∷◌, map, take, Option, Some, Result, Ok, Err, IfSome}
+use Rattle.std.specs.Prelude.{◌≡◌, ℕ, List, [], ◌∷◌, map, take, Option, Some, IfSome}
 use Rattle.std.specs.FinMap.{insert}
 use Rattle.pipe_ends.specs.Store.{Files}
 use Rattle.pipe_ends.specs.MemStore.{named_bytes}
@@ -7,7 +7,7 @@ use Rattle.flash_cli.specs.declared.answer.Answer.{Answer as CodeAnswer}
 use Rattle.flash_cli.specs.declared.answer.Finished.{Finished as CodeFinished}
 use Rattle.flash_cli.specs.declared.refusal.Refusal.{Refusal}
 use Rattle.flash_cli.specs.declared.status.Status.{Status}
-use Rattle.flash_cli.specs.declared.status.Status.TheVariants.{Done, Usage, Refused}
+use Rattle.flash_cli.specs.declared.status.Status.TheVariants.{Usage, Refused}
 use Rattle.flash_cli.specs.Text.{refusal_line, usage_line}
 
 -- what a command comes to: the text that it pushes, and the files that it puts, in order, each a name

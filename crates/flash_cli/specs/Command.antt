@@ -47,16 +47,17 @@ is_file_name (first ∷ rest) = not (first == 45)
 abbrev pub fits : Row → List (List ℕ) → Bool
 fits row names = nat_eq (length names) row.names && list_all is_file_name names
 
--- the command that names make after the word of a row, where there is such a row and they fit it
+-- the command that names make after the word of a row, where there is such a row, it starts no cores and
+-- they fit it
 abbrev pub made_by : Option Row → List (List ℕ) → Option Command
 made_by None names = None
-made_by (Some row) names = if fits row names then made row.kind names else None
+made_by (Some row) names = if not row.cores && fits row names then made row.kind names else None
 
 -- the row with this word
 abbrev pub row_of : List Row → List ℕ → Option Row
 row_of rows word = find (λ row. bytes_eq row.word word) rows
 
--- the command that words are, where they are one
+-- the command that words are, where they are one that starts no cores
 abbrev pub command_of : List (List ℕ) → Option Command
 command_of [] = None
 command_of (word ∷ names) = made_by (row_of rows word) names
@@ -65,7 +66,7 @@ command_of (word ∷ names) = made_by (row_of rows word) names
 abbrev pub words_of : List (String Global) → List (List ℕ)
 words_of words = map string_bytes words
 
--- the command that is asked for by these words, where they are one
+-- the command without cores that is asked for by these words, where they are one
 abbrev pub asked : List (String Global) → Option Command
 asked words = command_of (words_of words)
 

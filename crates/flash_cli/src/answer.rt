@@ -17,7 +17,7 @@ pub(crate) struct Answer {
 impl Answer {
     /// An answer that puts nothing. It takes no memory.
     pub(crate) fn text_only(alloc: Global, text: Vec<u8>) -> Answer
-        ensures { shown_answer result ≡ text_only text.items }
+        ensures exact { shown_answer result ≡ text_only text.items }
     {
         Answer {
             text,

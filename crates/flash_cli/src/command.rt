@@ -26,7 +26,7 @@ const COMMANDS: usize = 1;
 
 /// The table of commands, in the order of the usage line.
 pub(crate) fn table() -> [Row; COMMANDS]
-    ensures { map shown_row result ≡ rows }
+    ensures exact { map shown_row result ≡ rows }
 {
     [Row {
         kind: Kind::Choose,
@@ -44,15 +44,15 @@ pub(crate) enum Command<'a> {
 }
 
 impl<'a> Command<'a> {
-    /// The command that words are, where they are one.
+    /// The command that words are, where they are one that starts no cores.
     pub(crate) fn read(words: &'a [String]) -> Option<Command<'a>>
-        ensures { option_map shown result ≡ command_of (words_of words.now) }
+        ensures exact { option_map shown result ≡ command_of (words_of words.now) }
     {
         let [word, names @ ..] = words else {
             return None;
         };
         let row = row_of(&table(), word.as_str())?;
-        if row.fits(names) {
+        if !row.cores && row.fits(names) {
             Command::made(row.kind, names)
         } else {
             None
@@ -61,7 +61,7 @@ impl<'a> Command<'a> {
 
     /// The command of this kind with these names, where they are as many as it has.
     fn made(kind: Kind, names: &'a [String]) -> Option<Command<'a>>
-        ensures { option_map shown result ≡ made kind (words_of names.now) }
+        ensures exact { option_map shown result ≡ made kind (words_of names.now) }
     {
         match (kind, names) {
             (Kind::Choose, [flash]) => Some(Command::Choose {
@@ -75,7 +75,7 @@ impl<'a> Command<'a> {
 impl Row {
     /// Whether words can stand after the word of this row.
     fn fits(&self, names: &[String]) -> bool
-        ensures { result ≡ fits (shown_row self.now) (words_of names.now) }
+        ensures exact { result ≡ fits (shown_row self.now) (words_of names.now) }
     {
         names.len() == self.names && are_file_names(names)
     }
@@ -83,7 +83,7 @@ impl Row {
 
 /// The row with this word, of these.
 fn row_of(rows: &[Row], word: &str) -> Option<Row>
-    ensures { option_map shown_row result ≡ row_of (map shown_row rows.now) word.now }
+    ensures exact { option_map shown_row result ≡ row_of (map shown_row rows.now) word.now }
 {
     for row in rows {
         if row.word == word {
@@ -95,7 +95,7 @@ fn row_of(rows: &[Row], word: &str) -> Option<Row>
 
 /// Whether each word can name a file.
 fn are_file_names(words: &[String]) -> bool
-    ensures { result ≡ list_all is_file_name (words_of words.now) }
+    ensures exact { result ≡ list_all is_file_name (words_of words.now) }
 {
     for word in words {
         if !is_file_name(word.as_str()) {
@@ -107,7 +107,7 @@ fn are_file_names(words: &[String]) -> bool
 
 /// Whether a word can name a file: it isn't empty, and doesn't begin with a minus sign.
 fn is_file_name(word: &str) -> bool
-    ensures { result ≡ is_file_name word.now }
+    ensures exact { result ≡ is_file_name word.now }
 {
     match word.as_bytes() {
         [] => false,

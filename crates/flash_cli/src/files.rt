@@ -12,11 +12,7 @@ use pipe_ends::{File, GetFault, PutFault, Store};
 use std::alloc::Global;
 
 /// The bytes of a file, or none where the store has no file of this name.
-fn read_file<S: Store>(
-    alloc: Global,
-    store: &mut S,
-    name: &str,
-) -> Result<Option<Vec<u8>>, Failure>
+fn read_file<S: Store>(alloc: Global, store: &mut S, name: &str) -> Result<Option<Vec<u8>>, Failure>
     ensures ok { IfOk result (IsFileRead (S.files store.old) name.now) }
     ensures cause { IfErr result (IsCountedFailure (S.faults store.old) (S.faults store.new)) }
     ensures same { S.files store.new ≡ S.files store.old }
@@ -51,7 +47,7 @@ pub(crate) fn needed_file<S: Store>(
 
 /// The error of an absent file, with its own name.
 fn absent(alloc: Global, file: u32, name: &str) -> CommandError
-    ensures { IsAbsence file name.now result }
+    ensures cause { IsAbsence file name.now result }
 {
     match String::from_str(alloc, name) {
         Ok(name) => CommandError::Absent { file, name },

@@ -22,10 +22,15 @@ const PARTITIONS: [(u8, u8, u32, u32); 6] = [
 
 /// The states of an entry.
 const NEW: u32 = 0;
+
 const PENDING_VERIFY: u32 = 1;
+
 const VALID: u32 = 2;
+
 const INVALID: u32 = 3;
+
 const ABORTED: u32 = 4;
+
 const UNDEFINED: u32 = 0xFFFF_FFFF;
 
 /// Sequence, state and CRC of an entry.
@@ -35,7 +40,9 @@ type Numbers = (u32, u32, u32);
 const ERASED: Numbers = (0xFFFF_FFFF, UNDEFINED, 0xFFFF_FFFF);
 /// The numbers of valid entries, with CRCs from outside.
 const FIRST: Numbers = (1, VALID, 0x4743989A);
+
 const SECOND: Numbers = (2, VALID, 0x55F63774);
+
 const THIRD: Numbers = (3, VALID, 0xED4A5011);
 
 /// No byte of the flash is changed.
@@ -269,7 +276,11 @@ fn a_put_that_fails_leaves_those_before_it(rt: HostRuntime) -> Result<(), Fail> 
         (3, Err(Failure::Store), [true, true, false]),
     ] {
         let mut store = MemStore::new(Vec::new(alloc), Vec::from_slice(alloc, &[failing])?);
-        assert_eq!(rt; put_files(alloc, &mut store, &files), put, "put {failing} fails");
+        assert_eq!(rt;
+            put_files(alloc, &mut store, &files),
+            put,
+            "put {failing} fails"
+        );
         for (file, wanted) in files.iter().zip(wanted) {
             let bytes = store.get(alloc, file.name.as_str());
             let name = file.name.as_str();

@@ -144,7 +144,11 @@ fn a_put_that_fails_leaves_the_old_file_and_no_new_one(rt: HostRuntime) -> Resul
         let put = write(alloc, &mut store, name, "new");
         assert_eq!(rt; put, Err(PutFault::Failed), "{failing:?}: the answer");
         let bytes = fs::read(&rt, name)?;
-        assert_eq!(rt; bytes.as_slice(), b"the old bytes".as_slice(), "{failing:?}: the file");
+        assert_eq!(rt;
+            bytes.as_slice(),
+            b"the old bytes".as_slice(),
+            "{failing:?}: the file"
+        );
         let left = fs::exists(&rt, ".flash_cli-new-0")?;
         assert_eq!(rt; left, false, "{failing:?}: the new file");
     }
