@@ -11,7 +11,7 @@ use std::rt::Files;
 pub(crate) enum Failing {
     /// Making a file, as in a folder without the right to write.
     Create,
-    /// Every write after a first byte, as on a full disk.
+    /// Writing the last byte, as on a full disk.
     Write,
     /// Waiting until the disk has a file's bytes.
     Sync,
@@ -34,8 +34,8 @@ pub(crate) struct FailingFile<F: Drop> {
 }
 
 /// The error of a call that fails.
-fn failed<T>() -> io::Result<T> {
-    Err(io::Error::from(ErrorKind::Other))
+fn error() -> io::Error {
+    io::Error::from(ErrorKind::Other)
 }
 
 impl<F: Read + Drop> Read for FailingFile<F> {
@@ -46,13 +46,15 @@ impl<F: Read + Drop> Read for FailingFile<F> {
 }
 
 impl<F: Write + Drop> Write for FailingFile<F> {
-    /// One byte where writes fail, and then no more.
+    /// All but the last byte where writes fail, and then no more.
     fn write(&mut self, buf: &[u8]) -> io::Result<usize> {
-        match (self.failing, buf) {
-            (Failing::Write, [first, _, ..]) => self.file.write(&[*first]),
-            (Failing::Write, _) => failed(),
-            _ => self.file.write(buf),
+        if self.failing != Failing::Write {
+            return self.file.write(buf);
         }
+        if buf.len() < 2 {
+            return Err(error());
+        }
+        self.file.write(&buf[..buf.len() - 1])
     }
 
     /// As the file itself.
@@ -82,7 +84,7 @@ impl<F: OpenFile + Drop> OpenFile for FailingFile<F> {
     /// Fails where waiting for the disk does.
     fn sync_all(&self) -> io::Result<()> {
         match self.failing {
-            Failing::Sync => failed(),
+            Failing::Sync => Err(error()),
             _ => self.file.sync_all(),
         }
     }
@@ -106,7 +108,7 @@ impl<'a, R: Files> Files for FailingDisk<'a, R> {
     /// Fails for a new file where making files does.
     fn open_file(&self, how: &OpenOptions, path: &str) -> io::Result<FailingFile<R::File>> {
         if how.asks_create_new() && self.failing == Failing::Create {
-            return failed();
+            return Err(error());
         }
         Ok(FailingFile {
             file: self.rt.open_file(how, path)?,
@@ -137,7 +139,7 @@ impl<'a, R: Files> Files for FailingDisk<'a, R> {
     /// Fails where giving another name does.
     fn rename(&self, from: &str, to: &str) -> io::Result<()> {
         match self.failing {
-            Failing::Rename => failed(),
+            Failing::Rename => Err(error()),
             _ => self.rt.rename(from, to),
         }
     }
