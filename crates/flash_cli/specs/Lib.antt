@@ -1,5 +1,9 @@
 pub mod Command
-pub mod Choose
-pub mod Text
 pub mod Status
+pub mod Choice
+pub mod Text
+pub mod Answer
+pub mod Reading
+pub mod Choose
 pub mod Report
+pub mod Laws

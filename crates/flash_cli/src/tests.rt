@@ -1,11 +1,12 @@
 //! Rows from outside: the status and the text of the program on words, a flash, and failing ends.
 
+use crate::error::Failure;
+use crate::files::put_files;
 use crate::refusal::Refusal;
 use crate::status::Status;
 use crate::top::plain;
-use otadata::state::{ABORTED, INVALID, NEW, PENDING_VERIFY, UNDEFINED, VALID};
 use partition_table::TableBad;
-use pipe_ends::{File, MemSink, MemStore};
+use pipe_ends::{File, GetFault, MemSink, MemStore, Store};
 use std::alloc::{AllocError, Global};
 use std::test::Fail;
 
@@ -18,6 +19,19 @@ const PARTITIONS: [(u8, u8, u32, u32); 6] = [
     (0, 0x10, 0x110000, 0x100000),
     (0, 0x11, 0x210000, 0x100000),
 ];
+
+/// The states of an entry.
+const NEW: u32 = 0;
+
+const PENDING_VERIFY: u32 = 1;
+
+const VALID: u32 = 2;
+
+const INVALID: u32 = 3;
+
+const ABORTED: u32 = 4;
+
+const UNDEFINED: u32 = 0xFFFF_FFFF;
 
 /// Sequence, state and CRC of an entry.
 type Numbers = (u32, u32, u32);
@@ -138,7 +152,7 @@ fn answer(alloc: Global, row: &Row<'_>) -> Result<(Status, MemSink), AllocError>
 }
 
 /// The rows.
-fn rows<'a>() -> [Row<'a>; 18] {
+fn rows<'a>() -> [Row<'a>; 21] {
     let later = Status::Refused(Refusal::Table(TableBad::Later));
     let absent = Status::Refused(Refusal::Absent { file: 0 });
     let short = Status::Refused(Refusal::FlashSize { size: 3 });
@@ -192,6 +206,7 @@ fn rows<'a>() -> [Row<'a>; 18] {
         worded(&["choose", ""], Status::Usage, USAGE),
         worded(&["choose", "-F0"], Status::Usage, USAGE),
         worded(&["chose", "F0"], Status::Usage, USAGE),
+        worded(&["choos", "F0"], Status::Usage, USAGE),
         Row {
             failing_gets: &[1],
             ..worded(&["choose", "F0"], Status::StoreFault, "")
@@ -199,6 +214,14 @@ fn rows<'a>() -> [Row<'a>; 18] {
         Row {
             failing_pushes: &[1],
             ..worded(&["choose", "F0"], Status::SinkFault, "")
+        },
+        Row {
+            failing_gets: &[2],
+            ..done("a second get would fail", [ERASED, ERASED], BLANK_LINES)
+        },
+        Row {
+            failing_pushes: &[2],
+            ..done("a second push would fail", [ERASED, ERASED], BLANK_LINES)
         },
     ]
 }
@@ -214,7 +237,7 @@ fn each_row_has_its_status_and_its_text(rt: HostRuntime) -> Result<(), Fail> {
     Ok(())
 }
 
-/// Whether the answer is the row's, or want of memory.
+/// Whether the answer is the row's, or out of memory.
 fn is_row_or_memory(alloc: Global, row: &Row<'_>) -> bool {
     match answer(alloc, row) {
         Ok((status, _sink)) => status == row.status || status == Status::Memory,
@@ -223,10 +246,55 @@ fn is_row_or_memory(alloc: Global, row: &Row<'_>) -> bool {
 }
 
 #[test]
-fn a_refused_allocation_is_want_of_memory(rt: HostRuntime) {
+fn a_refused_allocation_is_out_of_memory(rt: HostRuntime) {
     for row in rows() {
         let holds = is_row_or_memory(rt.alloc(), &row);
         let why = row.why;
         assert_eq!(rt; holds, true, "status: {why}");
     }
+}
+
+/// A file of this name with these bytes.
+fn file_of(alloc: Global, name: &str, bytes: &[u8]) -> Result<File, AllocError> {
+    Ok(File {
+        name: String::from_str(alloc, name)?,
+        bytes: Vec::from_slice(alloc, bytes)?,
+    })
+}
+
+#[test]
+fn a_put_that_fails_leaves_those_before_it(rt: HostRuntime) -> Result<(), Fail> {
+    let alloc = rt.alloc();
+    let mut files = Vec::new(alloc);
+    for (name, bytes) in [("A", b"first"), ("B", b"other"), ("C", b"third")] {
+        files.push(file_of(alloc, name, bytes.as_slice())?)?;
+    }
+    for (failing, put, wanted) in [
+        (0, Ok(()), [true, true, true]),
+        (1, Err(Failure::Store), [false, false, false]),
+        (2, Err(Failure::Store), [true, false, false]),
+        (3, Err(Failure::Store), [true, true, false]),
+    ] {
+        let mut store = MemStore::new(Vec::new(alloc), Vec::from_slice(alloc, &[failing])?);
+        assert_eq!(rt;
+            put_files(alloc, &mut store, &files),
+            put,
+            "put {failing} fails"
+        );
+        for (file, wanted) in files.iter().zip(wanted) {
+            let bytes = store.get(alloc, file.name.as_str());
+            let name = file.name.as_str();
+            match bytes {
+                Ok(bytes) => {
+                    assert_eq!(rt; wanted, true, "{name}, where put {failing} fails");
+                    assert_eq!(rt; bytes.as_slice(), file.bytes.as_slice(), "{name}");
+                }
+                Err(why) => {
+                    assert_eq!(rt; wanted, false, "{name}, where put {failing} fails");
+                    assert_eq!(rt; why, GetFault::Absent, "{name}");
+                }
+            }
+        }
+    }
+    Ok(())
 }

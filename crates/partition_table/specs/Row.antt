@@ -2,7 +2,6 @@
 use Rattle.std.specs.Prelude.{ℕ, Bool, List, take, drop, slice_index, ◌==◌, ◌&&◌}
 use Rattle.byteorder.specs.Endian.{little_number}
 use Rattle.partition_table.specs.declared.row.Row.{Row}
-use Rattle.partition_table.specs.declared.row.TheConstants.{MARK_LOW, MARK_HIGH}
 
 -- the row that the first 32 bytes are
 unfoldable pub row_of : List ℕ → Row
@@ -18,5 +17,5 @@ row_of bytes = record {
 -- whether bytes begin with the mark of a partition, this type and this subtype
 unfoldable pub is_row : ℕ → ℕ → List ℕ → Bool
 is_row kind subtype bytes =
-    (slice_index bytes 0 == MARK_LOW) && (slice_index bytes 1 == MARK_HIGH)
+    (slice_index bytes 0 == 0xAA) && (slice_index bytes 1 == 0x50)
     && (slice_index bytes 2 == kind) && (slice_index bytes 3 == subtype)

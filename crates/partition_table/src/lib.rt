@@ -11,4 +11,4 @@ mod tests;
 pub use app::App;
 pub use layout::Layout;
 pub use row::Row;
-pub use table::{TABLE_OFFSET, TABLE_SIZE, Table, TableBad};
+pub use table::{TABLE_OFFSET, TABLE_SIZE, Table, TableBad, layout_in};

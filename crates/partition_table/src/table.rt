@@ -3,9 +3,9 @@
 //! So far one form is read, a factory application and two update slots: the rows nvs, otadata,
 //! phy_init, factory, ota_0 and ota_1, in this order. The digest is not compared.
 
-ghost use Rattle.std.specs.Prelude.{◌≡◌, ◌≤◌, ◌+◌, ◌*◌, ℕ, List, length, IfOk, IsOk, IsTrue};
+ghost use Rattle.std.specs.Prelude.{◌≡◌, ◌≤◌, ◌+◌, ◌*◌, ◌<◌, ◌^◌, ℕ, List, length, IfOk, IsOk, IsTrue};
 ghost use Rattle.partition_table.specs.Row.{row_of};
-ghost use Rattle.partition_table.specs.Table.{from_row, first_rows, has_data_rows, has_app_rows, is_end, holds_otadata, is_two_slot_table, table_of, layout_of, FitsFlash};
+ghost use Rattle.partition_table.specs.Table.{from_row, first_rows, layout_in, has_data_rows, has_app_rows, is_end, holds_otadata, is_two_slot_table, table_of, layout_of, FitsFlash};
 
 use crate::layout::Layout;
 use crate::row::{
@@ -44,13 +44,12 @@ pub struct Table {
 impl Model for Table {
     ghost use Rattle.std.specs.Prelude.{◌≡◌, List, length};
     ghost use Rattle.partition_table.specs.declared.row.Row.{Row as Shown};
-    ghost use Rattle.partition_table.specs.declared.table.TheConstants.{ROWS};
 
     ghost Value = { List Shown };
 
     ghost view = { λ t. t.rows.items };
 
-    ghost invariant = { λ t. length t.rows.items ≡ ROWS };
+    ghost invariant = { λ t. length t.rows.items ≡ 6 };
 
     ghost inverse = { λ rows. record { rows = record { items = rows } } };
 }
@@ -77,7 +76,7 @@ impl Table {
         ensures exact { result ≡ layout_of self.now }
         ensures found { IsOk result }
         ensures within { (flash : ℕ) → FitsFlash flash self.now
-            → IfOk result (λ layout. layout.otadata + OTADATA_SIZE ≤ flash) }
+            → IfOk result (λ layout. layout.otadata + 0x2000 ≤ flash) }
     {
         let [_, otadata, _, factory, first, second] = self.rows.as_slice() else {
             unreachable!()
@@ -86,12 +85,26 @@ impl Table {
     }
 }
 
+/// The layout of a flash by the table at 0x8000.
+#[tactic(auto, unfolding(crate::specs::Table::layout_in))]
+pub fn layout_in(flash: &[u8]) -> Result<Layout, TableBad>
+    requires least { 0x8C00 ≤ length flash.now }
+    requires most { length flash.now < 2 ^ 32 }
+    ensures exact { result ≡ layout_in flash.now }
+    ensures within { IfOk result (λ layout. layout.otadata + 0x2000 ≤ length flash.now) }
+{
+    let at = TABLE_OFFSET as usize;
+    let mut bytes = [0; TABLE_SIZE];
+    bytes.copy_from_slice(&flash[at..at + TABLE_SIZE]);
+    Table::read(&bytes, flash.len() as u32)?.layout()
+}
+
 /// Whether bytes have the form that is read so far.
 #[tactic(auto, unfolding(crate::specs::Table::is_two_slot_table))]
 fn has_two_slots(table: &[u8], flash: u32) -> bool
     requires { TABLE_SIZE ≤ length table.now }
     ensures exact { result ≡ is_two_slot_table table.now flash }
-    ensures fits { IsTrue result → (row_of (from_row table.now 1)).offset + OTADATA_SIZE ≤ flash }
+    ensures fits { IsTrue result → (row_of (from_row table.now 1)).offset + 0x2000 ≤ flash }
 {
     let data = has_data_rows(table);
     let app = has_app_rows(table);
@@ -137,7 +150,7 @@ fn begins_end(bytes: &[u8]) -> bool
 #[tactic(auto, unfolding(crate::specs::Table::holds_otadata))]
 fn holds_otadata(row: &Row, flash: u32) -> bool
     ensures exact { result ≡ holds_otadata flash row.now }
-    ensures fits { IsTrue result → row.now.offset + OTADATA_SIZE ≤ flash }
+    ensures fits { IsTrue result → row.now.offset + 0x2000 ≤ flash }
 {
     row.size == OTADATA_SIZE && u64::from(row.offset) + u64::from(row.size) <= u64::from(flash)
 }
@@ -145,7 +158,7 @@ fn holds_otadata(row: &Row, flash: u32) -> bool
 /// The rows of the form that is read so far.
 fn rows_of(table: &[u8]) -> ArrayVec<Row, 94>
     requires { TABLE_SIZE ≤ length table.now }
-    ensures { result.items ≡ first_rows table.now ROWS }
+    ensures { result.items ≡ first_rows table.now 6 }
 {
     let mut rows = ArrayVec::new();
     for i in 0..ROWS {

@@ -1,5 +1,5 @@
-use crate::row::{MARK_HIGH, MARK_LOW};
-use crate::table::END_MARK;
+//! Tables of the one form that is read, and changes of one byte that are refused.
+
 use crate::*;
 
 /// Type, subtype, offset and size of the rows of a table with two update slots.
@@ -13,21 +13,21 @@ const ROWS: [(u8, u8, u32, u32); 6] = [
 ];
 
 /// The bytes of such a table, with `value` in place of the byte at `at`.
-fn table(at: usize, value: u8) -> [u8; TABLE_SIZE] {
-    let mut bytes = [0xFF; TABLE_SIZE];
+fn table(at: usize, value: u8) -> [u8; 0xC00] {
+    let mut bytes = [0xFF; 0xC00];
     for (i, (kind, subtype, offset, size)) in ROWS.iter().enumerate() {
         let row = &mut bytes[32 * i..32 * i + 32];
         row.fill(0);
-        row[0] = MARK_LOW;
-        row[1] = MARK_HIGH;
+        row[0] = 0xAA;
+        row[1] = 0x50;
         row[2] = *kind;
         row[3] = *subtype;
         row[4..8].copy_from_slice(&offset.to_le_bytes());
         row[8..12].copy_from_slice(&size.to_le_bytes());
     }
-    bytes[192] = END_MARK;
-    bytes[193] = END_MARK;
-    if at < TABLE_SIZE {
+    bytes[192] = 0xEB;
+    bytes[193] = 0xEB;
+    if at < 0xC00 {
         bytes[at] = value;
     }
     bytes
@@ -35,7 +35,7 @@ fn table(at: usize, value: u8) -> [u8; TABLE_SIZE] {
 
 #[test]
 fn a_table_of_six_rows_is_read(rt: HostRuntime) {
-    let Ok(read) = Table::read(&table(TABLE_SIZE, 0), 0x400000) else {
+    let Ok(read) = Table::read(&table(0xC00, 0), 0x400000) else {
         panic!(rt; "the table is refused");
     };
     let Ok(layout) = read.layout() else {
@@ -59,12 +59,12 @@ fn a_table_of_another_form_is_refused(rt: HostRuntime) {
         (131, 0x12, 0x400000, "a subtype"),
         (41, 0x30, 0x400000, "the size of the OTA data"),
         (192, 0xFF, 0x400000, "no digest behind the rows"),
-        (TABLE_SIZE, 0, 0xEFFF, "OTA data beyond the flash"),
+        (0xC00, 0, 0xEFFF, "OTA data beyond the flash"),
         (39, 0xFF, 0x400000, "OTA data at the end of the addresses"),
     ] {
         let read = Table::read(&table(at, value), flash);
         assert_eq!(rt; read, Err(TableBad::Later), "{why}");
     }
-    let read = Table::read(&table(TABLE_SIZE, 0), 0xF000);
+    let read = Table::read(&table(0xC00, 0), 0xF000);
     assert!(rt; read.is_ok(), "OTA data that end with the flash");
 }

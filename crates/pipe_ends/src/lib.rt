@@ -10,6 +10,7 @@ mod mem_sink;
 mod mem_store;
 mod sink;
 mod store;
+mod whole_file;
 
 pub use digits::{hex_digits_spell_their_number, put_hex, put_number};
 pub use edge::{DirStore, StdSink};
@@ -20,5 +21,7 @@ pub use mem_store::MemStore;
 pub use sink::Sink;
 pub use store::Store;
 
+#[cfg(test)]
+mod failing_disk;
 #[cfg(test)]
 mod tests;
