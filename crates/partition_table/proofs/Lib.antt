@@ -1,0 +1,5 @@
+mod Steps
+pub mod RuleLemmas
+pub mod RowLemmas
+pub mod TableLemmas
+pub mod LayoutLemmas
