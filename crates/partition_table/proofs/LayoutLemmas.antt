@@ -129,11 +129,13 @@ layout_of-means rows layout is = by_otadata (row_with 1 0 rows) refl is
           slots = ap (λ (p : Places). p.slots) (sym whole);
           test = ap (λ (p : Places). p.test) (sym whole);
         }
+
     by_factory : (row : Row) → row_with 1 0 rows ≡ Some row → row.size ≡ 0x2000 → row.flags % 4 ≡ 0
         → (o : Option Row) → row_with 0 0 rows ≡ o → with_factory row.offset o rows ≡ Ok layout → IsLayout rows layout
     by_factory row found_row size flags None told e = absurd (cc)
     by_factory row found_row size flags (Some factory) told e =
         by_gap row factory found_row size flags told (is_gap (length (slots_from 16 0 rows)) rows) e
+
     by_tests : (row : Row) → row_with 1 0 rows ≡ Some row → (a b : Bool) → (row.size == 0x2000) ≡ a → (row.flags % 4 == 0) ≡ b
         → (if not a then Err (OtadataSize row.size)
         else (if not b then Err (OtadataFlags row.flags) else with_factory row.offset (row_with 0 0 rows) rows)) ≡ Ok layout
@@ -142,6 +144,7 @@ layout_of-means rows layout is = by_otadata (row_with 1 0 rows) refl is
     by_tests row found_row true false ea eb e = absurd (cc)
     by_tests row found_row true true ea eb e =
         by_factory row found_row (grind (arith, nat_tests, ea)) (grind (arith, nat_tests, eb)) (row_with 0 0 rows) refl e
+
     by_otadata : (o : Option Row) → row_with 1 0 rows ≡ o → with_otadata o rows ≡ Ok layout → IsLayout rows layout
     by_otadata None told e = absurd (cc)
     by_otadata (Some row) told e = by_tests row told (row.size == 0x2000) (row.flags % 4 == 0) refl refl e
@@ -217,15 +220,15 @@ placed flash rows layout fits is =
       inside = omega arith;
       stands = λ app row e. (found (Stands flash) (is_of 0 (subtype_for app)) rows row fits.each (app_row rows layout is app row e).0).has;
       app_apart = λ app row e.
-      rw (at, sym size) (apart row data_row
-      (two (λ a b. ranges_meet a b ≡ false) meet_flip (is_of 0 (subtype_for app)) (is_of 1 0)
-      (not_both 0 (subtype_for app) 1 0 (inl (omega arith))) rows fits.apart row data_row
-      (app_row rows layout is app row e).0 is.otadata_found));
+          rw (at, sym size) (apart row data_row
+          (two (λ a b. ranges_meet a b ≡ false) meet_flip (is_of 0 (subtype_for app)) (is_of 1 0)
+          (not_both 0 (subtype_for app) 1 0 (inl (omega arith))) rows fits.apart row data_row
+          (app_row rows layout is app row e).0 is.otadata_found));
       apps_apart = λ a b r s er es differ.
-      let first = app_row rows layout is a r er in
-      let second = app_row rows layout is b s es in
-      apart r s
-      (two (λ a b. ranges_meet a b ≡ false) meet_flip (is_of 0 (subtype_for a)) (is_of 0 (subtype_for b))
-      (not_both 0 (subtype_for a) 0 (subtype_for b) (inr (subtypes_differ a b first.1 second.1 differ))) rows fits.apart r s
-      first.0 second.0);
+          let first = app_row rows layout is a r er in
+          let second = app_row rows layout is b s es in
+          apart r s
+          (two (λ a b. ranges_meet a b ≡ false) meet_flip (is_of 0 (subtype_for a)) (is_of 0 (subtype_for b))
+          (not_both 0 (subtype_for a) 0 (subtype_for b) (inr (subtypes_differ a b first.1 second.1 differ))) rows fits.apart r s
+          first.0 second.0);
     }

@@ -1,10 +1,11 @@
 -- A row and its 32 bytes say the same.
-use Rattle.std.proofs.Common.{◌≡◌, ℕ, suc, ◌+◌, ◌*◌, ◌/◌, ◌%◌, ◌<◌, ◌≤◌, List, [], ◌∷◌, ◌++◌, Bool, true, length, take, drop, get_or, refl, sym, ap, ◌∙◌, arith}
-use Rattle.std.specs.List.{AllByRecursion}
+use Rattle.std.proofs.Common.{◌≡◌, ℕ, suc, ◌+◌, ◌*◌, ◌/◌, ◌%◌, ◌<◌, ◌≤◌, List, [], ◌∷◌, ◌++◌, Bool, true, length, take, drop, get_or, refl, sym, ap, ◌∙◌, ◌⊎◌, inl, inr, arith}
+use Rattle.std.specs.List.{All, AllByRecursion}
 use Rattle.std.proofs.Math.Seq.{take-add}
-use Rattle.std.proofs.lemmas.Bool.{and_parts}
+use Rattle.std.proofs.lemmas.Bool.{cases_lt}
+use Rattle.std.proofs.lemmas.List.Elements.{All-get_or}
 use Rattle.std.proofs.lemmas.Bool.Decides.{nat_tests}
-use Rattle.std.proofs.lemmas.List.{append_assoc, drop-drop, drop_at, get_or-drop, length-append, length-drop, length-take-le, take_at}
+use Rattle.std.proofs.lemmas.List.{append_assoc, drop-drop, drop_at, get_or-drop, get_or_past, length-append, length-drop, length-take-le, take_at}
 use Rattle.byteorder.specs.Endian.{little_bytes, little_number}
 use Rattle.byteorder.specs.Numbers.{length-bytes_low_first, little_from-lt, little_number-reads_back}
 use Rattle.partition_table.specs.declared.row.Row.{Row}
@@ -17,6 +18,14 @@ pub record AreBytes (bytes : List ℕ) : Type 0 where
 -- those behind a place
 pub bytes-drop : (n : ℕ) (bytes : List ℕ) → AreBytes bytes → AreBytes (drop n bytes)
 bytes-drop n bytes are = record { at = λ i. rw (get_or-drop n bytes i 0) (are.at (n + i)) }
+
+-- a list of bytes below 256 is one
+pub bytes-all : (bytes : List ℕ) → All (λ b. b < 256) bytes → AreBytes bytes
+bytes-all bytes small = record { at = λ i. by i (cases_lt i (length bytes)) }
+  where
+    by : (i : ℕ) → (i < length bytes) ⊎ (length bytes ≤ i) → get_or bytes i 0 < 256
+    by i (inl below) = All-get_or (λ (b : ℕ). b < 256) bytes i 0 below small
+    by i (inr past) = rw (get_or_past bytes i 0 past) (omega arith)
 
 -- ---- from bytes to numbers and back
 

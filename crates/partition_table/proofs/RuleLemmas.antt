@@ -55,7 +55,7 @@ at_none flash i (row ∷ rows) all = rw (fine flash i row all.0) (at_none flash 
 
 -- ---- a rule on each pair
 
-none_place : {A : Type 0} (test : A → Bool) (i : ℕ) (xs : List A) → first_place test i xs ≡ None
+pub none_place : {A : Type 0} (test : A → Bool) (i : ℕ) (xs : List A) → first_place test i xs ≡ None
     → AllByRecursion (λ x. test x ≡ false) xs
 none_place test i [] e = tt
 none_place test i (x ∷ xs) e = by (test x) refl e (λ f. none_place test (i + 1) xs f)
@@ -74,9 +74,10 @@ place_none test i (x ∷ xs) all = rw all.0 (place_none test (i + 1) xs all.1)
 none_pair : {A : Type 0} (meets : A → A → Bool) (i : ℕ) (xs : List A) → first_pair meets i xs ≡ None
     → AllPairs (λ a b. meets a b ≡ false) xs
 none_pair meets i [] e = tt
-none_pair meets i (x ∷ xs) e =
-    (none_place (meets x) (i + 1) xs (none_map (λ j. (i, j)) _ (none_first _ _ e)),
-    none_pair meets (i + 1) xs (none_second (option_map (λ j. (i, j)) (first_place (meets x) (i + 1) xs)) _ e))
+none_pair meets i (x ∷ xs) e = (
+  none_place (meets x) (i + 1) xs (none_map (λ j. (i, j)) _ (none_first _ _ e)),
+  none_pair meets (i + 1) xs (none_second (option_map (λ j. (i, j)) (first_place (meets x) (i + 1) xs)) _ e),
+)
 
 pair_none : {A : Type 0} (meets : A → A → Bool) (i : ℕ) (xs : List A) → AllPairs (λ a b. meets a b ≡ false) xs
     → first_pair meets i xs ≡ None

@@ -94,9 +94,10 @@ text-first_rows (suc n) bytes long are mark =
 sized-first_rows : (n : ℕ) (bytes : List ℕ) → 32 * n ≤ length bytes → AreBytes bytes → AllByRecursion IsSized (first_rows n bytes)
 unfolding first_rows
 sized-first_rows zero bytes long are = tt
-sized-first_rows (suc n) bytes long are =
-    (sized-of bytes (omega arith) are,
-    sized-first_rows n (drop 32 bytes) (omega (arith, length-drop 32 bytes)) (bytes-drop 32 bytes are))
+sized-first_rows (suc n) bytes long are = (
+  sized-of bytes (omega arith) are,
+  sized-first_rows n (drop 32 bytes) (omega (arith, length-drop 32 bytes)) (bytes-drop 32 bytes are),
+)
 
 -- ---- the digest and the end
 
@@ -202,7 +203,7 @@ table_of-text bytes flash rows is =
     let well : EndsWell bytes n = record {
       few = few;
       digest = ap (take 32) at ∙ take_at digest behind 32 digest_long
-      ∙ ap digest_row (sym (ap (take (32 * n)) parts ∙ take_at text tail (32 * n) long));
+          ∙ ap digest_row (sym (ap (take (32 * n)) parts ∙ take_at text tail (32 * n) long));
       end = ap (take 32) at_end ∙ take_at end_row is.rest 32 refl;
     } in
     rw (counted, none_bad bytes n well, read, fits_none flash rows is.rules) refl
@@ -233,9 +234,9 @@ table_of-means bytes flash rows size are read =
       sized = sized-first_rows n bytes (omega arith) are;
       rest = drop (32 * (n + 2)) bytes;
       text = whole
-      ∙ ap (λ (x : List ℕ). take (32 * n) bytes ++ x ++ row_at bytes (n + 1) ++ drop (32 * (n + 2)) bytes) well.digest
-      ∙ ap (λ (x : List ℕ). take (32 * n) bytes ++ digest_row (take (32 * n) bytes) ++ x ++ drop (32 * (n + 2)) bytes) well.end
-      ∙ ap (λ (x : List ℕ). x ++ digest_row x ++ end_row ++ drop (32 * (n + 2)) bytes) (sym text);
+          ∙ ap (λ (x : List ℕ). take (32 * n) bytes ++ x ++ row_at bytes (n + 1) ++ drop (32 * (n + 2)) bytes) well.digest
+          ∙ ap (λ (x : List ℕ). take (32 * n) bytes ++ digest_row (take (32 * n) bytes) ++ x ++ drop (32 * (n + 2)) bytes) well.end
+          ∙ ap (λ (x : List ℕ). x ++ digest_row x ++ end_row ++ drop (32 * (n + 2)) bytes) (sym text);
       rules = fits flash found ruled;
     } in
     subst (TableOf bytes flash) told.same table
@@ -255,11 +256,24 @@ table_text-means flash rows few sized obeyed =
     let front : List ℕ = text ++ digest_row text in
     record {
       size = let padding : length (replicate {A = ℕ} m 0xFF) ≡ m = length-replicate {A = ℕ} m 0xFF in
-      simp length-append (omega arith);
+          simp length-append (omega arith);
       few = few;
       sized = sized;
       rest = replicate (m - 32) 0xFF;
       text = ap (λ k. front ++ replicate k 0xFF) m_is ∙ ap (λ (x : List ℕ). front ++ x) (sym (replicate-append-replicate {A = ℕ} 32 (m - 32) 0xFF))
-      ∙ sym (append_assoc front end_row (replicate (m - 32) 0xFF));
+          ∙ sym (append_assoc front end_row (replicate (m - 32) 0xFF));
       rules = obeyed;
     }
+
+-- what was read is written again, up to the end row
+pub text_again : (bytes : List ℕ) (flash : ℕ) (rows : List Row) → TableOf bytes flash rows
+    → take (32 * (length rows + 2)) (table_text rows) ≡ take (32 * (length rows + 2)) bytes
+text_again bytes flash rows is =
+    let written = table_text-means flash rows is.few is.sized is.rules in
+    let text = rows_text rows in
+    let front : List ℕ = text ++ digest_row text ++ end_row in
+    let long : length text ≡ 32 * length rows = length-rows_text rows is.sized in
+    let digest_long = length-digest_row text in
+    let front_long : length front ≡ 32 * (length rows + 2) = simp length-append (omega arith) in
+    ap (take (32 * (length rows + 2))) written.text ∙ take_at front written.rest (32 * (length rows + 2)) front_long
+    ∙ sym (ap (take (32 * (length rows + 2))) is.text ∙ take_at front is.rest (32 * (length rows + 2)) front_long)

@@ -18,5 +18,5 @@ pub use app::App;
 pub use bad::TableBad;
 pub use layout::{Layout, layout_in};
 pub use row::Row;
-pub use rules::alignment_of;
-pub use table::{TABLE_OFFSET, TABLE_SIZE, Table};
+pub use rules::{alignment_of, rules_are_decided};
+pub use table::{TABLE_OFFSET, TABLE_SIZE, Table, tables_are_their_texts};

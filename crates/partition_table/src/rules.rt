@@ -1,6 +1,6 @@
 //! The rules on rows by themselves and on each two of them.
 
-ghost use Rattle.std.specs.Prelude.{◌≡◌, ◌≤◌, ◌<◌, ◌+◌, ℕ, Bool, List, length, drop, None, Some, IfSome};
+ghost use Rattle.std.specs.Prelude.{◌≡◌, ◌≤◌, ◌<◌, ◌+◌, ◌↔◌, ℕ, Bool, List, length, drop, None, Some};
 ghost use Rattle.partition_table.specs.declared.row.Row.{Row as Shown};
 ghost use Rattle.partition_table.specs.First.{IsFirstPair, first_at, first_pair, first_place};
 ghost use Rattle.partition_table.specs.Rules.{FitsFlash, alignment_of, are_two_of, is_aligned, is_single, is_within, meets_of, ranges_meet, row_bad, rows_bad};
@@ -150,3 +150,11 @@ pub(crate) fn rows_bad(rows: &[Row], flash: u32) -> Option<TableBad>
     let (a, b) = first_pair(rows, PairRule::TwoOf)?;
     Some(TableBad::TwoOf { a, b })
 }
+
+/// No rule is broken exactly where rows obey the rules, and the pair that is told is the first.
+pub fn rules_are_decided()
+    ensures fits { (flash : ℕ) (rows : List Shown)
+        → (rows_bad flash rows ≡ None) ↔ FitsFlash flash rows }
+    ensures least { (meets : Shown → Shown → Bool) (rows : List Shown) (a b : ℕ)
+        → first_pair meets 0 rows ≡ Some (a, b) → IsFirstPair meets rows a b }
+{}

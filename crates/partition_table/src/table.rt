@@ -1,10 +1,12 @@
 //! The partition table of a flash, which stands at 0x8000: rows of 32 bytes, then the row of their
 //! MD5 digest, then the end row of 0xFF.
 
-ghost use Rattle.std.specs.Prelude.{◌≡◌, ◌≤◌, ◌+◌, ◌*◌, ℕ, List, length, IfOk};
+ghost use Rattle.std.specs.Prelude.{◌≡◌, ◌≤◌, ◌<◌, ◌+◌, ◌*◌, ◌↔◌, ℕ, List, All, length, take, IfOk, Ok};
+ghost use Rattle.std.specs.List.{AllByRecursion};
 ghost use Rattle.partition_table.specs.declared.row.Row.{Row as Shown};
 ghost use Rattle.partition_table.specs.Find.{row_of_label};
 ghost use Rattle.partition_table.specs.Layout.{IsPlaced, layout_of};
+ghost use Rattle.partition_table.specs.Row.{IsSized};
 ghost use Rattle.partition_table.specs.Rules.{FitsFlash};
 ghost use Rattle.partition_table.specs.Table.{TableOf, ruled, table_of, table_text};
 
@@ -113,3 +115,15 @@ fn copy_rows(rows: &[Row]) -> ArrayVec<Row, 94>
     }
     copy
 }
+
+/// Tables and their texts say the same: what is written is read, what was read is written as far as
+/// the end row, and the answer is the rows exactly where they are those of the bytes.
+pub fn tables_are_their_texts()
+    ensures written { (flash : ℕ) (rows : List Shown) → length rows ≤ 94
+        → AllByRecursion IsSized rows → FitsFlash flash rows
+        → table_of (table_text rows) flash ≡ Ok rows }
+    ensures read { (bytes : List ℕ) (flash : ℕ) (rows : List Shown) → TableOf bytes flash rows
+        → take (32 * (length rows + 2)) (table_text rows) ≡ take (32 * (length rows + 2)) bytes }
+    ensures exact { (bytes : List ℕ) (flash : ℕ) (rows : List Shown) → length bytes ≡ 0xC00
+        → All (λ b. b < 256) bytes → (table_of bytes flash ≡ Ok rows) ↔ TableOf bytes flash rows }
+{}
