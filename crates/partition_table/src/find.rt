@@ -1,7 +1,7 @@
 //! The row that has a label.
 
-ghost use Rattle.std.specs.Prelude.{◌≡◌, ◌≤◌, ◌-◌, ◌++◌, length, replicate};
-ghost use Rattle.partition_table.specs.Find.{has_label, row_of_label};
+ghost use Rattle.std.specs.Prelude.{◌≡◌, ◌≤◌, length};
+ghost use Rattle.partition_table.specs.Find.{has_label, padded_label, row_of_label};
 
 use crate::row::Row;
 
@@ -10,13 +10,13 @@ use crate::row::Row;
 fn has_label(row: &Row, label: &[u8]) -> bool
     ensures exact { result ≡ has_label label.now row.now }
 {
-    label.len() <= 16 && row.label == padded(label)
+    label.len() <= 16 && row.label == padded_label(label)
 }
 
-/// A label with zeros behind it.
-fn padded(label: &[u8]) -> [u8; 16]
-    requires { length label.now ≤ 16 }
-    ensures exact { result ≡ label.now ++ replicate (16 - length label.now) 0 }
+/// A label and zeros behind it.
+pub fn padded_label(label: &[u8]) -> [u8; 16]
+    requires within { length label.now ≤ 16 }
+    ensures exact { result ≡ padded_label label.now }
 {
     let mut padded = [0; 16];
     padded[..label.len()].copy_from_slice(label);

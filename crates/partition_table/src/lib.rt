@@ -16,6 +16,7 @@ mod write;
 
 pub use app::App;
 pub use bad::TableBad;
+pub use find::padded_label;
 pub use layout::{Layout, layout_in};
 pub use row::Row;
 pub use rules::{alignment_of, rules_are_decided};

@@ -1,0 +1,3 @@
+-- Lemmas on records and words.
+mod RecordLemmas
+mod WordLemmas
