@@ -1,3 +1,4 @@
--- Lemmas on records and words.
+-- Lemmas on records, words and whole sources.
 mod RecordLemmas
 mod WordLemmas
+mod SourceLemmas
