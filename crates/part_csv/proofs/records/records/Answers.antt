@@ -18,8 +18,14 @@ loop-row-init c =
     let rdr = c.into_byte_records-row-items.ensures.rdr in
     let left = c.into_byte_records-row-items.ensures.left in
     rw (start, rdr, c.new-records.ensures.items) (
-      reader.trim, reader.ready, left, reader.config, strip_bom c.args.bytes.now, reader.source,
-      (sym reader.state, refl), reader.flexible,
+      reader.trim,
+      reader.ready,
+      left,
+      reader.config,
+      strip_bom c.args.bytes.now,
+      reader.source,
+      (sym reader.state, refl),
+      reader.flexible,
     )
 
 -- one more record
@@ -32,9 +38,16 @@ loop-row-preserved c =
     let good : is_ok c.push.result ≡ true = search rules in
     let items = rw good at c.push.ensures.items in
     let m = rows-more (λ (s : Bor (List ℕ)). Some s.now) c.loop-row.row-iterator.rdr c.next.new.self.rdr (fields_of c.in-Ok.row)
-    source_config st.StartRecord (strip_bom c.args.bytes.now) inv.4 (map fields_of c.loop-row.records.items) inv.3 inv.5 inv.6 s.0 in
-    (s.0.3 ∙ inv.0, inl s.1, s.2, s.0.2 ∙ inv.3, m.0, m.1,
-    rw (items, map-append fields_of c.loop-row.records.items (c.in-Ok.row ∷ [])) m.2, flexible ∙ inv.7)
+    source_config st.StartRecord (strip_bom c.args.bytes.now) inv.4 (map fields_of c.loop-row.records.items) inv.3 inv.5 inv.6 s.0 in (
+      s.0.3 ∙ inv.0,
+      inl s.1,
+      s.2,
+      s.0.2 ∙ inv.3,
+      m.0,
+      m.1,
+      rw (items, map-append fields_of c.loop-row.records.items (c.in-Ok.row ∷ [])) m.2,
+      flexible ∙ inv.7,
+    )
 
 -- the reader gives no more
 pub returns : goal.returns
@@ -45,5 +58,5 @@ returns c =
     let none = rows-end (λ (s : Bor (List ℕ)). Some s.now) c.loop-row.row-iterator.rdr c.next.new.self.rdr [] source_config inv.4 inv.3 inv.5 s in
     record {
       exact = are_records source_config _ st.StartRecord c.loop-row.row-iterator.rdr.state (strip_bom c.args.bytes.now) inv.4
-      (map fields_of c.loop-row.records.items) (inl (omega arith)) inv.6 none;
+          (map fields_of c.loop-row.records.items) (inl (omega arith)) inv.6 none;
     }

@@ -14,5 +14,5 @@ returns c =
     let told = rw (c.digits_value.ensures.exact, c.front_of.ensures.exact) at c.scaled.ensures.exact in
     record {
       exact = told ∙ bounded 0xFFFFFFFF _ c.last_unit.result (digits_value (front_of text)) some (omega arith)
-      ∙ ap (λ u. within 0xFFFFFFFF (option_map (λ n. n * u) (digits_value (front_of text)))) c.last_unit.ensures.exact;
+          ∙ ap (λ u. within 0xFFFFFFFF (option_map (λ n. n * u) (digits_value (front_of text)))) c.last_unit.ensures.exact;
     }
