@@ -1,8 +1,7 @@
 -- What the OTA data of a flash choose.
 use Rattle.std.specs.Prelude.{ℕ, List, length, Result, Ok, Err, if◌then◌else◌}
-use Rattle.partition_table.specs.declared.table.TableBad.{TableBad}
-use Rattle.partition_table.specs.Layout.{Places}
-use Rattle.partition_table.specs.Table.{layout_in}
+use Rattle.partition_table.specs.declared.bad.TableBad.{TableBad}
+use Rattle.partition_table.specs.Layout.{Places, layout_in}
 use Rattle.otadata.specs.Entry.{entry_in}
 use Rattle.boot_select.specs.Choice.{named_of}
 use Rattle.flash_cli.specs.declared.choice.Choice.{Choice}

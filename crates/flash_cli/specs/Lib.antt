@@ -1,4 +1,5 @@
 pub mod Command
+pub mod TableText
 pub mod Status
 pub mod Choice
 pub mod Text

@@ -10,6 +10,7 @@ mod files;
 mod laws;
 mod refusal;
 mod status;
+mod table_text;
 #[cfg(test)]
 mod tests;
 mod text;

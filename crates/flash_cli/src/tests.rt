@@ -33,6 +33,11 @@ const ABORTED: u32 = 4;
 
 const UNDEFINED: u32 = 0xFFFF_FFFF;
 
+/// The MD5 digest of the rows of these partitions, without labels, by Python's `hashlib.md5`.
+const DIGEST: [u8; 16] = [
+    0x59, 0x7B, 0x3B, 0x1A, 0x25, 0xDB, 0x86, 0x2A, 0x81, 0x51, 0xE6, 0xD3, 0x48, 0x53, 0xCC, 0xFA,
+];
+
 /// Sequence, state and CRC of an entry.
 type Numbers = (u32, u32, u32);
 
@@ -117,6 +122,7 @@ fn flash_of(alloc: Global, row: &Row<'_>) -> Result<Vec<u8>, AllocError> {
         write(&mut flash, at + 8, &size.to_le_bytes());
     }
     write(&mut flash, 0x80C0, &[0xEB, 0xEB]);
+    write(&mut flash, 0x80D0, &DIGEST);
     for (i, (seq, state, crc)) in row.entries.iter().enumerate() {
         let at = 0xD000 + 0x1000 * i;
         write(&mut flash, at, &seq.to_le_bytes());
@@ -153,7 +159,7 @@ fn answer(alloc: Global, row: &Row<'_>) -> Result<(Status, MemSink), AllocError>
 
 /// The rows.
 fn rows<'a>() -> [Row<'a>; 21] {
-    let later = Status::Refused(Refusal::Table(TableBad::Later));
+    let magic = Status::Refused(Refusal::Table(TableBad::Magic { row: 5 }));
     let absent = Status::Refused(Refusal::Absent { file: 0 });
     let short = Status::Refused(Refusal::FlashSize { size: 3 });
     [
@@ -192,8 +198,8 @@ fn rows<'a>() -> [Row<'a>; 21] {
         ),
         Row {
             change: (0x80A0, 0x00),
-            status: later,
-            ..worded(&["choose", "F0"], later, "refused: table later\n")
+            status: magic,
+            ..worded(&["choose", "F0"], magic, "refused: table magic row 5\n")
         },
         Row {
             size: 3,

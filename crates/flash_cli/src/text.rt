@@ -1,14 +1,15 @@
 //! The lines that the program prints.
 
 ghost use Rattle.std.specs.Prelude.{◌≡◌, ◌≤◌, ◌++◌, OnOk, codes, map, option_copied, decimal, List, ℕ};
-ghost use Rattle.flash_cli.specs.Text.{state_name, state_text, app_text, verdict_text, entry_line, names_line, choice_text, refusal_line, table_text, usage_line};
+ghost use Rattle.flash_cli.specs.Text.{state_name, state_text, app_text, verdict_text, entry_line, names_line, choice_text, refusal_line, usage_line};
 ghost use Rattle.flash_cli.specs.Command.{joined, shown_row};
 
 use crate::choice::Choice;
 use crate::command::{Row, table};
 use crate::refusal::Refusal;
+use crate::table_text::put_table_bad;
 use otadata::{Entry, state};
-use partition_table::{App, TableBad};
+use partition_table::App;
 use pipe_ends::{Memory, put_hex, put_number};
 
 /// Appends a text.
@@ -111,7 +112,7 @@ pub(crate) fn put_refusal(out: &mut Vec<u8>, name: &str, why: Refusal) -> Result
             put_text(out, "flash size ")?;
             put_number(out, size)?;
         }
-        Refusal::Table(why) => put_text(out, table_text(why))?,
+        Refusal::Table(why) => put_table_bad(out, why)?,
     }
     put_text(out, "\n")
 }
@@ -138,14 +139,5 @@ fn put_words(out: &mut Vec<u8>, rows: &[Row]) -> Result<(), Memory>
             put_text(out, "|")?;
             put_words(out, more)
         }
-    }
-}
-
-/// What is wrong with a table.
-fn table_text(why: TableBad) -> &'static str
-    ensures exact { result.now ≡ table_text why }
-{
-    match why {
-        TableBad::Later => "table later",
     }
 }
