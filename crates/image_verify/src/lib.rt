@@ -1,0 +1,8 @@
+//! Application images, verified as they come: piece by piece, without keeping them and without taking memory.
+#![tactic(auto)]
+
+mod bad;
+mod info;
+
+pub use bad::BadImage;
+pub use info::{ImageInfo, SegmentNote};
