@@ -1,0 +1,5 @@
+mod First
+mod Reading
+mod WalkText
+mod WalkEnds
+mod HeaderFacts
