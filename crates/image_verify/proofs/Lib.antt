@@ -3,3 +3,4 @@ mod Reading
 mod WalkText
 mod WalkEnds
 mod HeaderFacts
+mod PlanFacts
