@@ -42,6 +42,11 @@ unless_reads (Some bad) walk heads end notes is =
 pub begins_no_reads : (heads end : ℕ) (notes : List SegmentNote) → Begins ≡ Reads heads end notes → ⊥
 begins_no_reads heads end notes is = absurd (let none : 1 ≡ 2 = ap reads is in omega arith)
 
+-- a reading that is at its beginning has found no fault
+pub unless_begins : (fault : Option BadImage) (walk : Walk) → unless fault walk ≡ Begins → walk ≡ Begins
+unless_begins None walk is = is
+unless_begins (Some bad) walk is = absurd (let none : 0 ≡ 1 = ap reads is in omega arith)
+
 -- the parts of where it has come to
 pub same_reads : (heads end heads' end' : ℕ) (notes notes' : List SegmentNote)
     → Reads heads end notes ≡ Reads heads' end' notes'

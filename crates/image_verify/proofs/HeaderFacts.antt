@@ -18,7 +18,7 @@ pub record IsHeader (bytes : List ℕ) : Type 0 where
   pub flag : flag_of bytes ≤ 1
 
 -- a conjunction of which the first part holds, and which does not hold
-and_false : (one other : Bool) → one ≡ true → (one && other) ≡ false → other ≡ false
+pub and_false : (one other : Bool) → one ≡ true → (one && other) ≡ false → other ≡ false
 and_false true other is none = none
 and_false false other is none = absurd (true≢false (sym is))
 
@@ -33,7 +33,7 @@ and_no true other none = none
 and_no false other none = refl
 
 -- a test that is not false
-not_false : (test : Bool) → not test ≡ false → test ≡ true
+pub not_false : (test : Bool) → not test ≡ false → test ≡ true
 not_false true is = refl
 not_false false is = absurd (true≢false is)
 

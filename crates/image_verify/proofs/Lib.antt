@@ -4,3 +4,4 @@ mod WalkText
 mod WalkEnds
 mod HeaderFacts
 mod PlanFacts
+mod WholeFacts

@@ -11,7 +11,7 @@ use Rattle.image_verify.specs.declared.bad.BadImage.TheVariants.{TooLarge}
 use Rattle.image_verify.specs.declared.info.SegmentNote.{SegmentNote}
 use Rattle.image_verify.specs.Places.{count_of, flag_of, load_at, length_at, note_at, need_of}
 use Rattle.image_verify.specs.Walk.{Walk, Faulty, Begins, Reads, fails, limit_fault, unless, header_fault, walk, opened, plan}
-use Rattle.image_verify.proofs.First.{fails_none, fails_from, unless_reads, begins_no_reads, same_reads}
+use Rattle.image_verify.proofs.First.{fails_none, fails_from, unless_reads, unless_begins, begins_no_reads, same_reads}
 use Rattle.image_verify.proofs.Reading.{walk_head, walk_wait, walk_end}
 use Rattle.image_verify.proofs.WalkEnds.{fault_none}
 use Rattle.image_verify.proofs.HeaderFacts.{IsHeader, header_none, header_from}
@@ -76,7 +76,7 @@ walk_stops limit flag bytes (suc heads) at notes heads' end notes' is room =
         others went.1 good.small
 
 -- the header's bytes tell what the whole list tells at their places
-front_byte : (bytes : List ℕ) (i : ℕ) → i < 24 → slice_index (take 24 bytes) i ≡ slice_index bytes i
+pub front_byte : (bytes : List ℕ) (i : ℕ) → i < 24 → slice_index (take 24 bytes) i ≡ slice_index bytes i
 front_byte bytes i below = get_or-take 24 bytes i 0 below
 
 -- a reading that has come past the header
@@ -155,3 +155,35 @@ front_header bytes magic some most chip flag =
           ∙ little_from-take 0 2 12 (drop 12 bytes) (omega arith) ∙ chip;
       flag = omega (arith, flag_is, flag);
     }
+
+-- a walk is past the header
+walk_past : (limit flag : ℕ) (bytes : List ℕ) (heads at : ℕ) (notes : List SegmentNote)
+    → walk limit flag bytes heads at notes ≡ Begins → ⊥
+walk_past limit flag bytes zero at notes is =
+    begins_no_reads 0 at notes (sym is ∙ walk_end limit flag bytes at notes)
+walk_past limit flag bytes (suc heads) at notes is =
+    by (λ is'. walk_past limit flag bytes heads (at + 8 + length_at bytes at)
+    (notes ++ note_at bytes at ∷ []) is')
+    (cases_Bool (nat_lt (length bytes) (at + 8)))
+  where
+    by : (walk limit flag bytes heads (at + 8 + length_at bytes at) (notes ++ note_at bytes at ∷ []) ≡ Begins → ⊥)
+        → ((nat_lt (length bytes) (at + 8) ≡ true) ⊎ (nat_lt (length bytes) (at + 8) ≡ false)) → ⊥
+    by others (inl short) =
+        begins_no_reads (suc heads) at notes (sym is ∙ walk_wait limit flag bytes heads at notes short)
+    by others (inr there) =
+        others (unless_begins _ _ (sym (walk_head limit flag bytes heads at notes there) ∙ is))
+
+-- a reading that has not come to the end of the header
+pub plan_begins : (limit : ℕ) (bytes : List ℕ) → plan limit bytes ≡ Begins → length bytes < 24
+unfolding plan opened
+plan_begins limit bytes is =
+    by (unless_begins (header_fault (take 24 bytes)) _ is) (cases_Bool (nat_lt (length bytes) 24))
+  where
+    by : (if nat_lt (length bytes) 24 then Begins else opened limit bytes) ≡ Begins
+        → ((nat_lt (length bytes) 24 ≡ true) ⊎ (nat_lt (length bytes) 24 ≡ false))
+        → length bytes < 24
+    by is (inl short) = grind (arith, nat_tests, short)
+    by is (inr there) =
+        absurd (walk_past limit (flag_of bytes) bytes (count_of bytes) 24 []
+        (unless_begins (limit_fault limit (need_of 24 (count_of bytes) (flag_of bytes))) _
+        (sym (ap (λ (t : Bool). if t then Begins else opened limit bytes) there) ∙ is)))
