@@ -47,6 +47,18 @@ pub unless_begins : (fault : Option BadImage) (walk : Walk) → unless fault wal
 unless_begins None walk is = is
 unless_begins (Some bad) walk is = absurd (let none : 0 ≡ 1 = ap reads is in omega arith)
 
+-- the fault at which a reading came to its end, if there is one
+abbrev fault_of : Walk → Option BadImage
+fault_of (Faulty bad) = Some bad
+fault_of Begins = None
+fault_of (Reads heads end notes) = None
+
+-- a fault of a reading that had not come past the header
+pub unless_faulty : (fault : Option BadImage) (bad : BadImage)
+    → unless fault Begins ≡ Faulty bad → fault ≡ Some bad
+unless_faulty None bad is = absurd (let none : 1 ≡ 0 = ap reads is in omega arith)
+unless_faulty (Some found) bad is = ap (λ (w : Walk). fault_of w) is
+
 -- the parts of where it has come to
 pub same_reads : (heads end heads' end' : ℕ) (notes notes' : List SegmentNote)
     → Reads heads end notes ≡ Reads heads' end' notes'

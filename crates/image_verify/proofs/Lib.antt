@@ -5,3 +5,5 @@ mod WalkEnds
 mod HeaderFacts
 mod PlanFacts
 mod WholeFacts
+mod GoesOn
+pub mod HeldFacts

@@ -81,7 +81,7 @@ module _ (p : Parts) (image : IsImage p) (bytes rest : List ℕ)
   data_image = data_text 0 0 bytes p.segments 24 rest segments_stand image.segments
 
 -- the digest is as long as the flag says
-digest_long : (p : Parts) → IsImage p → length p.digest ≡ 32 * slice_index p.header 23
+pub digest_long : (p : Parts) → IsImage p → length p.digest ≡ 32 * slice_index p.header 23
 digest_long p image = by (slice_index p.header 23) refl
   where
     by : (flag : ℕ) → slice_index p.header 23 ≡ flag → length p.digest ≡ 32 * slice_index p.header 23
@@ -92,7 +92,7 @@ digest_long p image = by (slice_index p.header 23) refl
         omega (arith, one, long)
 
 -- what the digest is taken of ends with the footer
-summed_long : (p : Parts) → IsImage p → length (summed p) ≡ footer_end (data_end p)
+pub summed_long : (p : Parts) → IsImage p → length (summed p) ≡ footer_end (data_end p)
 summed_long p image =
     let one = length-append (p.header ++ text p.segments ++ p.padding) (p.checksum ∷ []) in
     let two = length-append (p.header ++ text p.segments) p.padding in
