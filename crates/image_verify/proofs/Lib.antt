@@ -6,4 +6,5 @@ mod HeaderFacts
 mod PlanFacts
 mod WholeFacts
 mod GoesOn
+mod KeepFacts
 pub mod HeldFacts

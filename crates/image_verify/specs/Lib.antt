@@ -2,3 +2,4 @@ pub mod Places
 pub mod Walk
 pub mod Bad
 pub mod Held
+pub mod Seen

@@ -2,7 +2,10 @@
 #![tactic(auto)]
 
 mod bad;
+mod faults;
 mod info;
+mod keep;
+mod seen;
 
 pub use bad::BadImage;
 pub use info::{ImageInfo, SegmentNote};
