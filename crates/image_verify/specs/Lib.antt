@@ -3,3 +3,4 @@ pub mod Walk
 pub mod Bad
 pub mod Held
 pub mod Seen
+pub mod Fed

@@ -5,6 +5,7 @@ mod bad;
 mod faults;
 mod info;
 mod keep;
+mod reader;
 mod seen;
 
 pub use bad::BadImage;
