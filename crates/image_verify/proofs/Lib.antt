@@ -7,4 +7,8 @@ mod PlanFacts
 mod WholeFacts
 mod GoesOn
 mod KeepFacts
+mod Noted
+mod Steps
+mod HeadSteps
+mod HeaderSteps
 pub mod HeldFacts
