@@ -123,65 +123,66 @@ module _ (v : Reader) (limit : ℕ) (bytes : List ℕ) (headed : IsHeaded v limi
   front_all : v.seen.front.items ≡ bytes
   front_all = headed.seen.front ∙ take_all 112 bytes (omega (arith, headed.long))
 
-  need_is : limit_fault v.limit (need_of 24 (slice_index v.seen.front.items 1) (slice_index v.seen.front.items 23))
-      ≡ limit_fault limit (need_of 24 (count_of bytes) (flag_of bytes))
-  need_is = λ i. limit_fault (headed.limited i)
-      (need_of 24 (slice_index (front_all i) 1) (slice_index (front_all i) 23))
+  module _ (heads flag : ℕ) (heads_is : heads ≡ slice_index v.seen.front.items 1)
+      (flag_is : flag ≡ slice_index v.seen.front.items 23) where
+    need_is : limit_fault v.limit (need_of 24 heads flag)
+        ≡ limit_fault limit (need_of 24 (count_of bytes) (flag_of bytes))
+    need_is =
+        (λ i. limit_fault v.limit (need_of 24 (heads_is i) (flag_is i)))
+        ∙ (λ i. limit_fault (headed.limited i)
+        (need_of 24 (slice_index (front_all i) 1) (slice_index (front_all i) 23)))
 
-  -- an image that is larger than the limit
-  pub open_bad : (bad : BadImage)
-      → limit_fault v.limit (need_of 24 (slice_index v.seen.front.items 1) (slice_index v.seen.front.items 23)) ≡ Some bad
-      → IsFed (record v { stage = stages.Bad bad }) limit bytes
-  unfolding opened
-  open_bad bad found = record {
-    limited = headed.limited;
-    small = headed.small;
-    seen = headed.seen;
-    state = subst (Stands (record v { stage = stages.Bad bad }) limit bytes)
-        (sym (headed.opens ∙ ap (λ (fault : Option BadImage). unless fault
-        (walk limit (flag_of bytes) bytes (count_of bytes) 24 [])) (sym need_is ∙ found))) refl;
-  }
+    -- an image that is larger than the limit
+    pub open_bad : (bad : BadImage) → limit_fault v.limit (need_of 24 heads flag) ≡ Some bad
+        → IsFed (record v { stage = stages.Bad bad }) limit bytes
+    unfolding opened
+    open_bad bad found = record {
+      limited = headed.limited;
+      small = headed.small;
+      seen = headed.seen;
+      state = subst (Stands (record v { stage = stages.Bad bad }) limit bytes)
+          (sym (headed.opens ∙ ap (λ (fault : Option BadImage). unless fault
+          (walk limit (flag_of bytes) bytes (count_of bytes) 24 [])) (sym need_is ∙ found))) refl;
+    }
 
-  -- one that is not
-  pub open_body : (hasher : Sha256)
-      → limit_fault v.limit (need_of 24 (slice_index v.seen.front.items 1) (slice_index v.seen.front.items 23)) ≡ None
-      → ((m : List ℕ) → Holds256 v.hasher m → Holds256 hasher (m ++ v.seen.front.items))
-      → IsFed (record v {
-        stage = stages.Body; left = slice_index v.seen.front.items 1; end = 24;
-        flag = slice_index v.seen.front.items 23; hasher = hasher;
-      }) limit bytes
-  unfolding opened
-  open_body hasher none holds =
-      let new : Reader = record v {
-        stage = stages.Body; left = slice_index v.seen.front.items 1; end = 24;
-        flag = slice_index v.seen.front.items 23; hasher = hasher;
-      } in
-      let start = headed.beginning in
-      let large = fails_none _ (TooLarge (need_of 24 (count_of bytes) (flag_of bytes)) limit) (sym need_is ∙ none) in
-      let planned : plan limit bytes ≡ Reads (count_of bytes) 24 [] =
-      headed.opens ∙ ap (λ (fault : Option BadImage). unless fault
-      (walk limit (flag_of bytes) bytes (count_of bytes) 24 [])) (sym need_is ∙ none)
-      ∙ walk_stays limit (flag_of bytes) bytes (count_of bytes) 24 [] (inr (omega (arith, headed.long))) in
-      let gone : drop 24 bytes ≡ [] = drop_all 24 bytes (omega (arith, headed.long)) in
-      let want = want_of (count_of bytes) 24 (flag_of bytes) in
-      let within : IsWithin new limit bytes (count_of bytes) 24 [] = record {
-        stage = refl;
-        left = ap (λ (xs : List ℕ). slice_index xs 1) front_all;
-        ends = refl;
-        flag = ap (λ (xs : List ℕ). slice_index xs 23) front_all;
-        segments = start.notes;
-        buffer = start.buffer ∙ sym (take_all want [] (omega arith)) ∙ sym (ap (take want) gone);
-        sum = start.sum;
-        hash = subst (Holds256 hasher) (front_all ∙ sym (take_all 24 bytes (omega (arith, headed.long)))) (holds [] start.hash);
-        noted = omega (arith, headed.long);
-        room = omega (arith, headed.most);
-        long = omega (arith, headed.long);
-        flagged = headed.flagged;
-        fits = grind (arith, nat_tests, large);
-      } in
-      record {
-        limited = headed.limited;
-        small = headed.small;
-        seen = headed.seen;
-        state = subst (Stands new limit bytes) (sym planned) within;
-      }
+    -- one that is not
+    pub open_body : (hasher : Sha256) → limit_fault v.limit (need_of 24 heads flag) ≡ None
+        → ((m : List ℕ) → Holds256 v.hasher m → Holds256 hasher (m ++ v.seen.front.items))
+        → IsFed (record v { stage = stages.Body; left = heads; end = 24; flag = flag; hasher = hasher }) limit bytes
+    unfolding opened
+    open_body hasher none holds =
+        let new : Reader = record v { stage = stages.Body; left = heads; end = 24; flag = flag; hasher = hasher } in
+        let start = headed.beginning in
+        let large = fails_none _ (TooLarge (need_of 24 (count_of bytes) (flag_of bytes)) limit) (sym need_is ∙ none) in
+        let planned : plan limit bytes ≡ Reads (count_of bytes) 24 [] =
+        headed.opens ∙ ap (λ (fault : Option BadImage). unless fault
+        (walk limit (flag_of bytes) bytes (count_of bytes) 24 [])) (sym need_is ∙ none)
+        ∙ walk_stays limit (flag_of bytes) bytes (count_of bytes) 24 [] (inr (omega (arith, headed.long))) in
+        let gone : drop 24 bytes ≡ [] = drop_all 24 bytes (omega (arith, headed.long)) in
+        let want = want_of (count_of bytes) 24 (flag_of bytes) in
+        let within : IsWithin new limit bytes (count_of bytes) 24 [] = record {
+          stage = refl;
+          left = heads_is ∙ ap (λ (xs : List ℕ). slice_index xs 1) front_all;
+          ends = refl;
+          flag = flag_is ∙ ap (λ (xs : List ℕ). slice_index xs 23) front_all;
+          segments = start.notes;
+          buffer = start.buffer ∙ sym (take_all want [] (omega arith)) ∙ sym (ap (take want) gone);
+          sum = start.sum;
+          hash = subst (Holds256 hasher) (front_all ∙ sym (take_all 24 bytes (omega (arith, headed.long)))) (holds [] start.hash);
+          noted = omega (arith, headed.long);
+          room = omega (arith, headed.most);
+          long = omega (arith, headed.long);
+          flagged = headed.flagged;
+          fits = grind (arith, nat_tests, large);
+        } in
+        record {
+          limited = headed.limited;
+          small = headed.small;
+          seen = headed.seen;
+          state = subst (Stands new limit bytes) (sym planned) within;
+        }
+
+-- before the first byte
+pub plan_nothing : (limit : ℕ) → plan limit [] ≡ Begins
+unfolding plan header_fault
+plan_nothing limit = refl
