@@ -11,4 +11,5 @@ mod Noted
 mod Steps
 mod HeadSteps
 mod HeaderSteps
+mod Bounds
 pub mod HeldFacts

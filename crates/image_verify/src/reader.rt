@@ -7,7 +7,8 @@
 ghost use Rattle.std.specs.Prelude.{◌≡◌, ◌<◌, ◌≤◌, ◌^◌, ◌+◌, ◌-◌, ◌++◌, List, ℕ, [], length, take};
 ghost use Rattle.image_verify.specs.Places.{need_of};
 ghost use Rattle.image_verify.specs.Walk.{plan};
-ghost use Rattle.image_verify.specs.Fed.{IsFed, IsHeaded, IsFull};
+ghost use Rattle.image_verify.specs.Bad.{early};
+ghost use Rattle.image_verify.specs.Fed.{IsFed, IsHeaded, IsFull, Known, wanted_by};
 ghost use Rattle.image_verify.specs.declared.reader.Stage.{Stage};
 ghost use Rattle.image_verify.specs.declared.reader.Stage.TheVariants as stages;
 
@@ -203,5 +204,87 @@ impl Reader {
     {
         self.seen.saw(piece);
         piece.len()
+    }
+
+    /// Takes a first part of a piece past the header.
+    fn in_body(&mut self, piece: &[u8]) -> usize
+        requires known { Known self.old }
+        requires body { self.old.stage ≡ stages.Body }
+        ensures fed { (limit : ℕ) (bytes : List ℕ) → IsFed self.old limit bytes
+            → IsFed self.new limit (bytes ++ take result piece.now) }
+        ensures some { 1 ≤ length piece.now → 1 ≤ result }
+        ensures within { result ≤ length piece.now }
+    {
+        if self.seen.count < self.end {
+            self.in_data(piece)
+        } else if self.left > 0 {
+            self.in_head(piece)
+        } else {
+            self.in_tail(piece)
+        }
+    }
+
+    /// Takes a first part of a piece, at least one byte of a piece that has some.
+    fn step(&mut self, piece: &[u8]) -> usize
+        requires known { Known self.old }
+        ensures fed { (limit : ℕ) (bytes : List ℕ) → IsFed self.old limit bytes
+            → IsFed self.new limit (bytes ++ take result piece.now) }
+        ensures some { 1 ≤ length piece.now → 1 ≤ result }
+        ensures within { result ≤ length piece.now }
+    {
+        match self.stage {
+            Stage::Header => self.in_header(piece),
+            Stage::Body => self.in_body(piece),
+            Stage::Bad(bad) => self.in_bad(piece, bad),
+        }
+    }
+
+    /// Takes a piece.
+    pub(crate) fn feed(&mut self, piece: &[u8])
+        requires known { Known self.old }
+        ensures { (limit : ℕ) (bytes : List ℕ) → IsFed self.old limit bytes
+            → IsFed self.new limit (bytes ++ piece.now) }
+    {
+        let mut done = 0;
+        while done < piece.len() {
+            done += self.step(&piece[done..]);
+        }
+    }
+
+    /// The fault that the bytes show so far.
+    pub(crate) fn shown(&self) -> Option<BadImage>
+        requires known { Known self.now }
+        ensures exact { (limit : ℕ) (bytes : List ℕ) → IsFed self.now limit bytes
+            → result ≡ early limit bytes }
+    {
+        match self.stage {
+            Stage::Bad(bad) => Some(bad),
+            Stage::Header => None,
+            Stage::Body => None,
+        }
+    }
+
+    /// How many bytes are wanted before more is known.
+    pub(crate) fn wanted(&self) -> u32
+        requires known { Known self.now }
+        ensures exact { (limit : ℕ) (bytes : List ℕ) → IsFed self.now limit bytes
+            → result ≡ wanted_by bytes (plan limit bytes) }
+    {
+        match self.stage {
+            Stage::Bad(_) => 0,
+            Stage::Header => 24 - self.seen.front.len() as u32,
+            Stage::Body => self.missing(),
+        }
+    }
+
+    /// How many bytes an image past its header still needs.
+    fn missing(&self) -> u32
+        requires known { Known self.now }
+        requires body { self.now.stage ≡ stages.Body }
+        ensures exact { (limit : ℕ) (bytes : List ℕ) → IsFed self.now limit bytes
+            → result ≡ wanted_by bytes (plan limit bytes) }
+    {
+        let need = need(self.end, self.left, self.flag);
+        need.saturating_sub(self.seen.count) as u32
     }
 }
