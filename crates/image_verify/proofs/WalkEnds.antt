@@ -10,11 +10,10 @@ use Rattle.image_layout.specs.Space.{may_load}
 use Rattle.image_layout.specs.Segment.{Segment, IsSegment, AreSegments, text, load_of}
 use Rattle.image_verify.specs.declared.bad.BadImage.TheVariants.{Length, Address, TooLarge}
 use Rattle.image_verify.specs.declared.info.SegmentNote.{SegmentNote}
-use Rattle.image_verify.specs.Places.{load_at, length_at, note_at, need_of}
+use Rattle.image_verify.specs.Places.{load_at, length_at, note_at, notes_from, need_of}
 use Rattle.image_verify.specs.Walk.{Walk, Reads, fault_at, head_fault, walk, unless}
 use Rattle.image_verify.proofs.First.{fails_none, first_none, unless_reads, same_reads}
 use Rattle.image_verify.proofs.Reading.{walk_head, walk_wait, walk_end}
-use Rattle.image_verify.proofs.WalkText.{notes_from}
 
 -- What a head without a fault tells.
 pub record IsFaultless (limit flag load len at heads : ℕ) : Type 0 where

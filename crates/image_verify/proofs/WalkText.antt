@@ -9,17 +9,10 @@ use Rattle.image_layout.specs.Space.{may_load}
 use Rattle.image_layout.specs.Segment.{Segment, IsSegment, AreSegments, text, contents, load_of}
 use Rattle.image_verify.specs.declared.bad.BadImage.TheVariants.{Length, Address, TooLarge}
 use Rattle.image_verify.specs.declared.info.SegmentNote.{SegmentNote}
-use Rattle.image_verify.specs.Places.{load_at, length_at, note_at, need_of, data_of}
+use Rattle.image_verify.specs.Places.{load_at, length_at, note_at, notes_from, need_of, data_of}
 use Rattle.image_verify.specs.Walk.{Walk, Reads, fault_at, head_fault, walk}
 use Rattle.image_verify.proofs.First.{fails_from, first_from}
 use Rattle.image_verify.proofs.Reading.{Stands, stands_load, stands_length, stands_content, stands_rest, stands_within, walk_step, walk_end}
-
--- what is noted of segments that stand one after the other from a place on
-abbrev pub notes_from : ℕ → List Segment → List SegmentNote
-notes_from at [] = []
-notes_from at (s ∷ ss) =
-    record { load = load_of s; length = length s.content; place = at + 8 }
-    ∷ notes_from (at + 8 + length s.content) ss
 
 -- the text of segments is as long as their heads and data
 pub length-text : (s : Segment) (ss : List Segment) → length s.head ≡ 8

@@ -15,11 +15,11 @@ use Rattle.image_layout.specs.Whole.{Parts, data_end, summed, xor_all, IsImage, 
 use Rattle.image_verify.specs.declared.bad.BadImage.{BadImage}
 use Rattle.image_verify.specs.declared.bad.BadImage.TheVariants.{Short, Trailing, Checksum, Digest}
 use Rattle.image_verify.specs.declared.info.SegmentNote.{SegmentNote}
-use Rattle.image_verify.specs.Places.{count_of, flag_of, need_of, data_of}
+use Rattle.image_verify.specs.Places.{count_of, flag_of, notes_from, need_of, data_of}
 use Rattle.image_verify.specs.Walk.{Walk, Faulty, Begins, Reads, plan, walk}
 use Rattle.image_verify.specs.Bad.{bad, counted, late, length_fault, footer_fault, checksum_fault, digest_fault}
 use Rattle.image_verify.proofs.First.{fails_none, fails_from, first_none, first_from}
-use Rattle.image_verify.proofs.WalkText.{notes_from, heads_fit, need_grows, walk_text, data_text}
+use Rattle.image_verify.proofs.WalkText.{heads_fit, need_grows, walk_text, data_text}
 use Rattle.image_verify.proofs.WalkEnds.{HasRead, walk_ends}
 use Rattle.image_verify.proofs.HeaderFacts.{IsHeader, and_false, not_false}
 use Rattle.image_verify.proofs.PlanFacts.{Opened, plan_reads, plan_opens, plan_begins, header_front, front_byte}

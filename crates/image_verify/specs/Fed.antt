@@ -1,14 +1,18 @@
 -- What the reader of an image is, once these bytes came.
-use Rattle.std.specs.Prelude.{◌≡◌, ◌<◌, ◌≤◌, ◌^◌, ℕ, zero, suc, ◌+◌, ◌-◌, List, [], ◌∷◌, length, take, drop, Result, Ok, Err, Option, Some, None}
+use Rattle.std.specs.Prelude.{◌≡◌, ◌↔◌, IsTrue, ◌<◌, ◌≤◌, ◌^◌, ℕ, zero, suc, ◌+◌, ◌-◌, List, [], ◌∷◌, length, take, drop, Result, Ok, Err, Option, Some, None}
+use Rattle.byteorder.specs.Endian.{little_number}
 use Rattle.sha2.specs.Hashers.{Holds256}
+use Rattle.image_layout.specs.Description.{description_of}
 use Rattle.image_layout.specs.Whole.{xor_all}
 use Rattle.image_verify.specs.declared.bad.BadImage.{BadImage}
+use Rattle.image_verify.specs.declared.info.ImageInfo.{ImageInfo}
 use Rattle.image_verify.specs.declared.info.SegmentNote.{SegmentNote}
 use Rattle.image_verify.specs.declared.reader.Reader.{Reader}
 use Rattle.image_verify.specs.declared.reader.Stage.{Stage}
 use Rattle.image_verify.specs.declared.reader.Stage.TheVariants as stages
 use Rattle.image_verify.specs.Places.{count_of, flag_of, need_of, data_of}
 use Rattle.image_verify.specs.Walk.{Walk, Faulty, Begins, Reads, walk, opened, plan}
+use Rattle.image_verify.specs.Bad.{bad}
 use Rattle.image_verify.specs.Seen.{IsSeen}
 
 -- how many bytes are wanted at once after the last data: those of a head, or all up to the end
@@ -102,3 +106,22 @@ abbrev pub wanted_by : List ℕ → Walk → ℕ
 wanted_by bytes (Faulty bad) = 0
 wanted_by bytes Begins = 24 - length bytes
 wanted_by bytes (Reads heads end notes) = need_of end heads (flag_of bytes) - length bytes
+
+-- the segments that a reading has come over
+abbrev pub notes_in : Walk → List SegmentNote
+notes_in (Faulty bad) = []
+notes_in Begins = []
+notes_in (Reads heads end notes) = notes
+
+-- what is told of bytes that show no fault
+pub record IsTold (limit : ℕ) (bytes : List ℕ) (info : ImageInfo) : Type 0 where
+  pub none : bad limit bytes ≡ None
+  pub long : info.length ≡ length bytes
+  pub entry : info.entry ≡ little_number 4 (drop 4 bytes)
+  pub flagged : IsTrue info.flagged ↔ (flag_of bytes ≡ 1)
+  pub segments : info.segments.items ≡ notes_in (plan limit bytes)
+  pub desc : info.desc ≡ description_of bytes
+
+-- a verifier has read these bytes, of an image of at most so many
+unfoldable pub HasRead : Reader → ℕ → List ℕ → Type 0
+HasRead reader limit bytes = IsFed reader limit bytes

@@ -4,3 +4,4 @@ pub mod Bad
 pub mod Held
 pub mod Seen
 pub mod Fed
+pub mod Info

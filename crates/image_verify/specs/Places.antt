@@ -1,7 +1,8 @@
 -- What the bytes of an image tell at a place.
-use Rattle.std.specs.Prelude.{ℕ, ◌+◌, ◌*◌, List, [], ◌∷◌, ◌++◌, take, drop, slice_index}
+use Rattle.std.specs.Prelude.{ℕ, ◌+◌, ◌*◌, List, [], ◌∷◌, ◌++◌, length, take, drop, slice_index}
 use Rattle.byteorder.specs.Endian.{little_number}
 use Rattle.image_layout.specs.Footer.{footer_end}
+use Rattle.image_layout.specs.Segment.{Segment, load_of}
 use Rattle.image_verify.specs.declared.info.SegmentNote.{SegmentNote}
 
 -- the number of segments that the header tells
@@ -23,6 +24,13 @@ length_at bytes at = little_number 4 (drop 4 (drop at bytes))
 -- the segment whose head stands at this place
 abbrev pub note_at : List ℕ → ℕ → SegmentNote
 note_at bytes at = record { load = load_at bytes at; length = length_at bytes at; place = at + 8 }
+
+-- the segments that stand one after the other from a place on
+abbrev pub notes_from : ℕ → List Segment → List SegmentNote
+notes_from at [] = []
+notes_from at (s ∷ ss) =
+    record { load = load_of s; length = length s.content; place = at + 8 }
+    ∷ notes_from (at + 8 + length s.content) ss
 
 -- how many bytes an image needs whose data end here so far, with so many heads still to come
 abbrev pub need_of : ℕ → ℕ → ℕ → ℕ

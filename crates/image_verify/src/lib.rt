@@ -3,10 +3,15 @@
 
 mod bad;
 mod faults;
+mod feed;
+mod finish;
 mod info;
 mod keep;
 mod reader;
 mod seen;
+mod verifier;
 
 pub use bad::BadImage;
+pub use feed::Fed;
 pub use info::{ImageInfo, SegmentNote};
+pub use verifier::Verifier;
