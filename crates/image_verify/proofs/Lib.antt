@@ -12,4 +12,5 @@ mod Steps
 mod HeadSteps
 mod HeaderSteps
 mod Bounds
+mod EndFacts
 pub mod HeldFacts

@@ -166,7 +166,7 @@ record Ends (bytes : List ℕ) (heads end : ℕ) (notes : List SegmentNote) : Ty
       → take 32 (drop (footer_end end) bytes) ≡ sha256 (take (footer_end end) bytes)
 
 -- a length without a fault
-length_none : (have need : ℕ) → length_fault have need ≡ None → have ≡ need
+pub length_none : (have need : ℕ) → length_fault have need ≡ None → have ≡ need
 unfolding length_fault
 length_none have need none =
     let both = first_none _ _ none in

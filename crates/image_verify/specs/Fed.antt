@@ -123,5 +123,5 @@ pub record IsTold (limit : ℕ) (bytes : List ℕ) (info : ImageInfo) : Type 0 w
   pub desc : info.desc ≡ description_of bytes
 
 -- a verifier has read these bytes, of an image of at most so many
-unfoldable pub HasRead : Reader → ℕ → List ℕ → Type 0
+abbrev pub HasRead : Reader → ℕ → List ℕ → Type 0
 HasRead reader limit bytes = IsFed reader limit bytes
