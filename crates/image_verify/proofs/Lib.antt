@@ -13,4 +13,5 @@ mod HeadSteps
 mod HeaderSteps
 mod Bounds
 mod EndFacts
+mod VerifierFacts
 pub mod HeldFacts
