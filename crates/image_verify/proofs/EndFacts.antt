@@ -85,7 +85,7 @@ finish_header v limit bytes fed stage = by (plan limit bytes) refl fed.state
 -- ---- past the header
 
 -- no head is to come where as many bytes stand as are needed
-heads_none : (heads end flag n : ℕ) → (heads ≡ 0) ⊎ (n < end + 8) → n ≡ need_of end heads flag → heads ≡ 0
+pub heads_none : (heads end flag n : ℕ) → (heads ≡ 0) ⊎ (n < end + 8) → n ≡ need_of end heads flag → heads ≡ 0
 heads_none heads end flag n (inl none) long = none
 heads_none zero end flag n (inr short) long = refl
 heads_none (suc heads) end flag n (inr short) long = absurd (omega (arith, short, long))

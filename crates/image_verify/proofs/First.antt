@@ -42,6 +42,11 @@ unless_reads (Some bad) walk heads end notes is =
 pub begins_no_reads : (heads end : ℕ) (notes : List SegmentNote) → Begins ≡ Reads heads end notes → ⊥
 begins_no_reads heads end notes is = absurd (let none : 1 ≡ 2 = ap reads is in omega arith)
 
+-- a fault is no reading that goes on
+pub faulty_reads : (bad : BadImage) (heads end : ℕ) (notes : List SegmentNote)
+    → Faulty bad ≡ Reads heads end notes → ⊥
+faulty_reads bad heads end notes is = absurd (let none : 0 ≡ 2 = ap reads is in omega arith)
+
 -- a reading that is at its beginning has found no fault
 pub unless_begins : (fault : Option BadImage) (walk : Walk) → unless fault walk ≡ Begins → walk ≡ Begins
 unless_begins None walk is = is

@@ -13,6 +13,7 @@ use Rattle.image_verify.specs.declared.bad.BadImage.TheVariants.{Magic, Segments
 use Rattle.image_verify.specs.declared.info.SegmentNote.{SegmentNote}
 use Rattle.image_verify.specs.Places.{count_of, flag_of, load_at, length_at, note_at, need_of}
 use Rattle.image_verify.specs.Walk.{Walk, Faulty, Begins, Reads, fails, first, unless, magic_fault, segments_fault, chip_fault, flag_fault, header_fault, limit_fault, fault_at, head_fault, walk, opened, plan}
+use Rattle.image_verify.specs.Bad.{fault_in, early, late, bad}
 use Rattle.image_verify.proofs.First.{fails_none, same_reads, unless_faulty}
 use Rattle.image_verify.proofs.Reading.{walk_head, walk_wait, walk_end}
 use Rattle.image_verify.proofs.PlanFacts.{Opened, plan_reads}
@@ -222,3 +223,31 @@ plan_faulty limit bytes more bad is =
         ap header_fault front ∙ header_stays bytes (take (24 - length bytes) more) bad found in
         ap (λ (fault : Option BadImage). unless fault
         (if nat_lt (length (bytes ++ more)) 24 then Begins else opened limit (bytes ++ more))) still
+
+-- the value of an answer
+some_is : (found why : BadImage) → Some found ≡ Some why → found ≡ why
+some_is found why is = ap (λ (o : Option BadImage). value o) is
+  where
+    value : Option BadImage → BadImage
+    value None = found
+    value (Some bad) = bad
+
+-- a fault that shows as the bytes come is where the reading has come to
+early_faulty : (walk : Walk) (why : BadImage) → fault_in walk ≡ Some why → walk ≡ Faulty why
+early_faulty (Faulty found) why is = ap Faulty (some_is found why is)
+early_faulty Begins why is = absurd (none-some why is)
+early_faulty (Reads heads end notes) why is = absurd (none-some why is)
+
+-- it stays
+pub early_stays : (limit : ℕ) (bytes more : List ℕ) (why : BadImage) → early limit bytes ≡ Some why
+    → early limit (bytes ++ more) ≡ Some why
+unfolding early
+early_stays limit bytes more why is =
+    ap fault_in (plan_faulty limit bytes more why (early_faulty (plan limit bytes) why is))
+
+-- to the end
+pub bad_stays : (limit : ℕ) (bytes more : List ℕ) (why : BadImage) → early limit bytes ≡ Some why
+    → bad limit (bytes ++ more) ≡ Some why
+unfolding early bad
+bad_stays limit bytes more why is =
+    ap (late (bytes ++ more)) (plan_faulty limit bytes more why (early_faulty (plan limit bytes) why is))

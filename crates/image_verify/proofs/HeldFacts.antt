@@ -1,16 +1,20 @@
 -- The image that bytes begin with: at most one, and what the bytes of a slot hold.
 use Rattle.std.proofs.Common.{◌≡◌, ℕ, ◌+◌, ◌-◌, ◌*◌, ◌<◌, ◌≤◌, List, [], ◌∷◌, ◌++◌, length, take, drop, refl, sym, ap, ◌∙◌, arith, subst}
 use Rattle.std.specs.Prelude.{Option, Some, None, min}
-use Rattle.std.proofs.lemmas.List.{append_assoc, append-nil, length-append, length-take, take_all, take_at, take_min, take-append-drop}
+use Rattle.std.proofs.lemmas.List.{append_assoc, append-nil, length-append, length-take, length-take-le, take_all, take_at, take_min, take-append-drop}
 use Rattle.std.proofs.lemmas.Option.{none-some}
 use Rattle.image_layout.specs.Footer.{footer_end}
 use Rattle.image_layout.specs.Segment.{text}
 use Rattle.image_layout.specs.Whole.{Parts, data_end, summed, IsImage, Whole}
 use Rattle.image_verify.specs.declared.bad.BadImage.{BadImage}
+use Rattle.image_verify.specs.declared.info.SegmentNote.{SegmentNote}
 use Rattle.image_verify.specs.Places.{flag_of, need_of}
-use Rattle.image_verify.specs.Walk.{Walk, Reads, plan}
+use Rattle.image_verify.specs.Walk.{Walk, Faulty, Reads, plan}
 use Rattle.image_verify.specs.Bad.{bad}
-use Rattle.image_verify.specs.Held.{extent_by, extent, faultless, held}
+use Rattle.image_verify.specs.Held.{extent_by, extent, faultless, held, IsHeld}
+use Rattle.image_verify.proofs.Reading.{walk_end}
+use Rattle.image_verify.proofs.PlanFacts.{Opened, plan_reads}
+use Rattle.image_verify.proofs.GoesOn.{byte_stays, onward, plan_onward, plan_faulty}
 use Rattle.image_verify.proofs.WholeFacts.{flag_is, plan_image, summed_long, digest_long, whole_shows_none, whole_from_none}
 
 -- a whole image is whole within a wider limit
@@ -65,11 +69,6 @@ held_from slot image begins whole =
     ap (bad (length slot)) front ∙ whole_shows_none (length slot) image whole in
     ap (λ (fault : Option BadImage). faultless fault (take (extent (length slot) slot) slot)) none ∙ ap Some front
 
--- What a slot holds is whole, and its bytes begin with it.
-pub record IsHeld (slot image : List ℕ) : Type 0 where
-  pub begins : take (length image) slot ≡ image
-  pub whole : Whole image (length slot)
-
 -- bytes without a fault
 faultless_some : (fault : Option BadImage) (bytes image : List ℕ) → faultless fault bytes ≡ Some image
     → (fault ≡ None) × (bytes ≡ image)
@@ -101,3 +100,65 @@ pub held_front : (slot : List ℕ) (n : ℕ) → bad (length slot) (take n slot)
     → held slot ≡ Some (take n slot)
 held_front slot n none =
     held_from slot (take n slot) (take_own n slot) (whole_from_none (length slot) (take n slot) none)
+
+-- a whole image has some bytes
+whole_long : (limit : ℕ) (image : List ℕ) → Whole image limit → 1 ≤ length image
+whole_long limit image whole =
+    let p = whole.parts in
+    omega (arith, ap length whole.text, length-append (summed p) p.digest, summed_long p whole.image)
+
+-- a slot that begins with bytes which are all that an image needs, and show a fault, holds nothing
+pub held_ends : (slot : List ℕ) (n : ℕ) (end : ℕ) (notes : List SegmentNote) (why : BadImage)
+    → plan (length slot) (take n slot) ≡ Reads 0 end notes
+    → need_of end 0 (flag_of (take n slot)) ≡ n → n ≤ length slot
+    → bad (length slot) (take n slot) ≡ Some why → held slot ≡ None
+unfolding extent
+held_ends slot n end notes why planned need inside found = by (held slot) refl
+  where
+    by : (image : Option (List ℕ)) → held slot ≡ image → held slot ≡ None
+    by None is = is
+    by (Some image) is =
+        let holds = held_is slot image is in
+        let long = length-take-le n slot inside in
+        let apart : slot ≡ image ++ drop (length image) slot =
+        sym (take-append-drop (length image) slot)
+        ∙ ap (λ (xs : List ℕ). xs ++ drop (length image) slot) holds.begins in
+        let split : slot ≡ take n slot ++ drop n slot = sym (take-append-drop n slot) in
+        let opened = plan_reads (length slot) (take n slot) 0 end notes planned in
+        let onward_is : plan (length slot) slot ≡ Reads 0 end notes =
+        ap (plan (length slot)) split ∙ plan_onward (length slot) (take n slot) (drop n slot) opened.long
+        ∙ ap (onward (length slot) (flag_of (take n slot)) (take n slot ++ drop n slot)) planned
+        ∙ walk_end (length slot) (flag_of (take n slot)) (take n slot ++ drop n slot) end notes in
+        let flag : flag_of slot ≡ flag_of (take n slot) =
+        ap flag_of split ∙ byte_stays (take n slot) (drop n slot) 23 (omega (arith, opened.long)) in
+        let size : length image ≡ n =
+        sym (ap (extent (length slot)) apart ∙ whole_extent (length slot) image (drop (length image) slot) holds.whole)
+        ∙ ap (extent_by slot) onward_is ∙ ap (λ d. need_of end 0 d) flag ∙ need in
+        let same : take n slot ≡ image = ap (λ k. take k slot) (sym size) ∙ holds.begins in
+        absurd (none-some why (sym (ap (bad (length slot)) same
+        ∙ whole_shows_none (length slot) image holds.whole) ∙ found))
+
+-- a slot whose bytes need nothing by their reading holds nothing
+pub held_nothing : (slot : List ℕ) {walk : Walk} → plan (length slot) slot ≡ walk → extent_by slot walk ≡ 0
+    → held slot ≡ None
+unfolding extent
+held_nothing slot {walk = walk} planned none = by (held slot) refl
+  where
+    by : (image : Option (List ℕ)) → held slot ≡ image → held slot ≡ None
+    by None is = is
+    by (Some image) is =
+        let holds = held_is slot image is in
+        let apart : slot ≡ image ++ drop (length image) slot =
+        sym (take-append-drop (length image) slot)
+        ∙ ap (λ (xs : List ℕ). xs ++ drop (length image) slot) holds.begins in
+        let long : length image ≡ 0 =
+        sym (ap (extent (length slot)) apart ∙ whole_extent (length slot) image (drop (length image) slot) holds.whole)
+        ∙ ap (extent_by slot) planned ∙ none in
+        absurd (omega (arith, long, whole_long (length slot) image holds.whole))
+
+-- a slot whose first bytes show a fault as they come holds nothing
+pub held_faulty : (slot : List ℕ) (n : ℕ) (why : BadImage) → plan (length slot) (take n slot) ≡ Faulty why
+    → held slot ≡ None
+held_faulty slot n why faulty =
+    held_nothing slot (ap (plan (length slot)) (sym (take-append-drop n slot))
+    ∙ plan_faulty (length slot) (take n slot) (drop n slot) why faulty) refl

@@ -15,3 +15,4 @@ mod Bounds
 mod EndFacts
 mod VerifierFacts
 pub mod HeldFacts
+pub mod SlotFacts

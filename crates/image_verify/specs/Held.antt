@@ -1,5 +1,6 @@
 -- The image that a slot of a flash holds: the one whole image that its bytes begin with.
-use Rattle.std.specs.Prelude.{ℕ, List, length, take, Option, Some, None}
+use Rattle.std.specs.Prelude.{◌≡◌, ℕ, List, length, take, Option, Some, None}
+use Rattle.image_layout.specs.Whole.{Whole}
 use Rattle.image_verify.specs.declared.bad.BadImage.{BadImage}
 use Rattle.image_verify.specs.Places.{flag_of, need_of}
 use Rattle.image_verify.specs.Walk.{Walk, Faulty, Begins, Reads, plan}
@@ -25,3 +26,8 @@ unfoldable pub held : List ℕ → Option (List ℕ)
 held slot =
     let front = take (extent (length slot) slot) slot in
     faultless (bad (length slot) front) front
+
+-- the bytes of the slot begin with the image, and it is whole within the slot
+pub record IsHeld (slot image : List ℕ) : Type 0 where
+  pub begins : take (length image) slot ≡ image
+  pub whole : Whole image (length slot)

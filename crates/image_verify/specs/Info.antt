@@ -8,6 +8,7 @@ use Rattle.image_verify.specs.declared.info.ImageInfo.{ImageInfo}
 use Rattle.image_verify.specs.declared.feed.Fed.{Fed}
 use Rattle.image_verify.specs.declared.feed.Fed.TheVariants.{More, Bad}
 use Rattle.image_verify.specs.Places.{notes_from}
+use Rattle.image_verify.specs.Held.{held}
 
 -- its length, its entry address, whether a digest is appended, its segments with their places, and its description
 pub record IsInfo (bytes : List ℕ) (info : ImageInfo) : Type 0 where
@@ -22,3 +23,9 @@ pub record IsInfo (bytes : List ℕ) (info : ImageInfo) : Type 0 where
 abbrev pub answer_of : Option BadImage → Fed
 answer_of None = More
 answer_of (Some bad) = Bad bad
+
+-- what is told of the image that the bytes of a slot hold
+pub record HoldsWith (slot : List ℕ) (info : ImageInfo) : Type 0 where
+  pub image : List ℕ
+  pub holds : held slot ≡ Some image
+  pub told : IsInfo image info
