@@ -1,17 +1,16 @@
 -- What the reader knows bounds its fields.
-use Rattle.std.proofs.Common.{◌≡◌, ℕ, zero, suc, ◌+◌, ◌-◌, ◌*◌, ◌<◌, ◌≤◌, List, [], ◌++◌, length, take, drop, refl, sym, ap, ◌∙◌, arith, inl, inr, subst}
-use Rattle.std.specs.Prelude.{Option, Some, None, ◌^◌, ◌⊎◌}
+use Rattle.std.proofs.Common.{◌≡◌, ℕ, ◌+◌, ◌-◌, ◌*◌, ◌<◌, ◌≤◌, List, length, take, drop, refl, sym, ap, ◌∙◌, arith, inl, inr, subst}
+use Rattle.std.specs.Prelude.{◌^◌, ◌⊎◌}
 use Rattle.std.proofs.lemmas.List.{length-drop, length-take}
 use Rattle.image_verify.specs.declared.bad.BadImage.{BadImage}
-use Rattle.image_verify.specs.declared.info.SegmentNote.{SegmentNote}
 use Rattle.image_verify.specs.declared.reader.Reader.{Reader}
 use Rattle.image_verify.specs.declared.reader.Stage.TheVariants as stages
 use Rattle.image_verify.specs.Places.{flag_of, need_of}
 use Rattle.image_verify.specs.Walk.{Walk, Faulty, Begins, Reads, plan}
 use Rattle.image_verify.specs.Bad.{counted, early, fault_in}
-use Rattle.image_verify.specs.Fed.{want_of, IsWithin, Stands, IsFed, Known, shown_by, wanted_by}
-use Rattle.image_verify.proofs.PlanFacts.{Opened, plan_reads, plan_begins}
-use Rattle.image_verify.proofs.Steps.{kind, Body, fed_body, want_some, counted_past, need_bounds}
+use Rattle.image_verify.specs.Fed.{want_of, Stands, IsFed, Known, shown_by, wanted_by}
+use Rattle.image_verify.proofs.PlanFacts.{plan_reads, plan_begins}
+use Rattle.image_verify.proofs.Steps.{kind, fed_body, need_bounds}
 
 -- before the end of the header
 pub header_few : (v : Reader) → Known v → v.stage ≡ stages.Header → length v.seen.front.items < 24

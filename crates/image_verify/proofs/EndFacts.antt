@@ -1,29 +1,25 @@
 -- What the reader answers at the end of the bytes.
-use Rattle.std.proofs.Common.{◌≡◌, ℕ, zero, suc, ◌+◌, ◌-◌, ◌*◌, ◌<◌, ◌≤◌, List, [], ◌++◌, length, take, drop, get_or, refl, sym, ap, ◌∙◌, arith, inl, inr, subst}
-use Rattle.std.specs.Prelude.{Bool, true, false, Option, Some, None, ◌↔◌, IsTrue, ◌==◌, ◌^◌, ◌⊎◌, ◌&&◌, nat_le, nat_lt, if◌then◌else◌, slice_index}
+use Rattle.std.proofs.Common.{◌≡◌, ℕ, zero, suc, ◌+◌, ◌-◌, ◌*◌, ◌<◌, ◌≤◌, List, ◌++◌, length, take, drop, get_or, refl, sym, ap, ◌∙◌, arith, inl, inr}
+use Rattle.std.specs.Prelude.{Bool, true, false, Option, Some, None, ◌==◌, ◌^◌, ◌⊎◌, ◌&&◌, nat_le, nat_lt, if◌then◌else◌, slice_index}
 use Rattle.std.proofs.lemmas.Bool.{cases_lt}
 use Rattle.std.proofs.lemmas.Bool.Decides.{nat_tests}
 use Rattle.std.proofs.lemmas.List.{drop-append-le, drop-drop, get_or-drop, length-drop, length-take, take-append-drop, take-append-le, take_all}
 use Rattle.std.proofs.Math.Seq.{take-add}
 use Rattle.byteorder.specs.Endian.{little_number}
 use Rattle.byteorder.specs.Numbers.{little_from-append}
-use Rattle.sha2.specs.Hashers.{Holds256}
 use Rattle.image_layout.specs.Description.{has_description, description_at, description_of}
-use Rattle.image_layout.specs.declared.description.AppDesc.{AppDesc}
 use Rattle.image_layout.specs.Footer.{footer_end}
-use Rattle.image_layout.specs.Whole.{xor_all}
 use Rattle.image_verify.specs.declared.bad.BadImage.{BadImage}
 use Rattle.image_verify.specs.declared.bad.BadImage.TheVariants.{Short, Trailing}
-use Rattle.image_verify.specs.declared.info.SegmentNote.{SegmentNote}
 use Rattle.image_verify.specs.declared.reader.Reader.{Reader}
 use Rattle.image_verify.specs.declared.reader.Stage.{Stage}
 use Rattle.image_verify.specs.declared.reader.Stage.TheVariants as stages
-use Rattle.image_verify.specs.Places.{flag_of, need_of, data_of}
+use Rattle.image_verify.specs.Places.{flag_of, need_of}
 use Rattle.image_verify.specs.Walk.{Walk, Faulty, Begins, Reads, fails, first, plan}
-use Rattle.image_verify.specs.Bad.{counted, bad, late, length_fault, checksum_fault, digest_fault, footer_fault}
-use Rattle.image_verify.specs.Fed.{want_of, IsWithin, Stands, IsFed, Known}
-use Rattle.image_verify.proofs.PlanFacts.{Opened, plan_reads, plan_begins}
-use Rattle.image_verify.proofs.Steps.{kind, Body, fed_body}
+use Rattle.image_verify.specs.Bad.{counted, bad, length_fault, checksum_fault, digest_fault, footer_fault}
+use Rattle.image_verify.specs.Fed.{want_of, Stands, IsFed}
+use Rattle.image_verify.proofs.PlanFacts.{plan_reads, plan_begins}
+use Rattle.image_verify.proofs.Steps.{kind, Body}
 use Rattle.image_verify.proofs.WholeFacts.{bad_reads, length_none}
 
 -- a number of bytes up to the end of 64 bits shows the fault that the number shows
@@ -196,7 +192,7 @@ front_description bytes = elim (cases_lt (length bytes) 112) [
       let version = front_part 32 48 112 bytes (omega arith) long in
       let project = front_part 32 80 112 bytes (omega arith) long in
       λ i. if there i && (mark i == 0xABCD5432)
-          then Some (record { secure = secure i; version = version i; project = project i }) else None
+      then Some (record { secure = secure i; version = version i; project = project i }) else None
 ]
 
 -- the entry address is that of the first bytes

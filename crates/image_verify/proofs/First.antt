@@ -74,9 +74,11 @@ same_reads heads end heads' end' notes notes' is =
     heads_in : Walk → ℕ
     heads_in (Reads h e n) = h
     heads_in _ = heads
+
     end_in : Walk → ℕ
     end_in (Reads h e n) = e
     end_in _ = end
+
     notes_in : Walk → List SegmentNote
     notes_in (Reads h e n) = n
     notes_in _ = notes

@@ -1,22 +1,21 @@
 -- A reading goes on where it stopped when more bytes come, and a fault stays.
-use Rattle.std.proofs.Common.{◌≡◌, ℕ, zero, suc, ◌+◌, ◌-◌, ◌*◌, ◌<◌, ◌≤◌, List, [], ◌∷◌, ◌++◌, length, take, drop, get_or, refl, sym, ap, ◌∙◌, arith, inl, inr, subst}
+use Rattle.std.proofs.Common.{◌≡◌, ℕ, zero, suc, ◌+◌, ◌-◌, ◌<◌, ◌≤◌, List, [], ◌∷◌, ◌++◌, length, take, drop, refl, sym, ap, ◌∙◌, arith, inl, inr}
 use Rattle.std.specs.Prelude.{Bool, true, false, not, Option, Some, None, nat_lt, ◌==◌, ◌&&◌, ◌||◌, ◌⊎◌, if◌then◌else◌, slice_index}
 use Rattle.std.proofs.lemmas.Bool.{cases_Bool, cases_lt}
 use Rattle.std.proofs.lemmas.Bool.Decides.{nat_tests}
 use Rattle.std.proofs.Math.Seq.{take-append-add}
-use Rattle.std.proofs.lemmas.List.{append-nil, drop-append-le, get_or_append_left, length-append, length-drop, length-take, take-append-le, take_all}
+use Rattle.std.proofs.lemmas.List.{drop-append-le, get_or_append_left, length-append, length-drop, take-append-le, take_all}
 use Rattle.std.proofs.lemmas.Option.{none-some}
 use Rattle.byteorder.specs.Endian.{little_number}
 use Rattle.byteorder.specs.Numbers.{little_from-append}
 use Rattle.image_verify.specs.declared.bad.BadImage.{BadImage}
-use Rattle.image_verify.specs.declared.bad.BadImage.TheVariants.{Magic, Segments, Chip, Flag, TooLarge}
+use Rattle.image_verify.specs.declared.bad.BadImage.TheVariants.{Magic, Segments, Chip, Flag}
 use Rattle.image_verify.specs.declared.info.SegmentNote.{SegmentNote}
 use Rattle.image_verify.specs.Places.{count_of, flag_of, load_at, length_at, note_at, need_of}
 use Rattle.image_verify.specs.Walk.{Walk, Faulty, Begins, Reads, fails, first, unless, magic_fault, segments_fault, chip_fault, flag_fault, header_fault, limit_fault, fault_at, head_fault, walk, opened, plan}
 use Rattle.image_verify.specs.Bad.{fault_in, early, late, bad}
-use Rattle.image_verify.proofs.First.{fails_none, same_reads, unless_faulty}
+use Rattle.image_verify.proofs.First.{unless_faulty}
 use Rattle.image_verify.proofs.Reading.{walk_head, walk_wait, walk_end}
-use Rattle.image_verify.proofs.PlanFacts.{Opened, plan_reads}
 
 -- what a place tells stays when bytes follow
 module _ (bytes more : List ℕ) where

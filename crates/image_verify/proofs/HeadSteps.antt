@@ -1,5 +1,5 @@
 -- The head of a segment comes, and is looked at once it is whole.
-use Rattle.std.proofs.Common.{◌≡◌, ℕ, zero, suc, ◌+◌, ◌-◌, ◌*◌, ◌<◌, ◌≤◌, ◌≢◌, List, [], ◌∷◌, ◌++◌, length, take, drop, refl, sym, ap, ◌∙◌, arith, inl, inr, subst}
+use Rattle.std.proofs.Common.{◌≡◌, ℕ, zero, suc, ◌+◌, ◌-◌, ◌<◌, ◌≤◌, List, [], ◌∷◌, ◌++◌, length, take, drop, refl, sym, ap, ◌∙◌, arith, inr, subst}
 use Rattle.std.specs.Prelude.{false}
 use Rattle.std.specs.Prelude.{Option, Some, None, nat_lt, ◌^◌}
 use Rattle.std.proofs.lemmas.Bool.Decides.{nat_tests}
@@ -17,14 +17,14 @@ use Rattle.image_verify.specs.declared.info.SegmentNote.{SegmentNote}
 use Rattle.image_verify.specs.declared.reader.Reader.{Reader}
 use Rattle.image_verify.specs.declared.reader.Stage.TheVariants as stages
 use Rattle.image_verify.specs.declared.seen.Seen.{Seen}
-use Rattle.image_verify.specs.Places.{flag_of, load_at, length_at, note_at, need_of, data_of}
-use Rattle.image_verify.specs.Walk.{Walk, Faulty, Reads, unless, head_fault, fault_at, walk, plan}
+use Rattle.image_verify.specs.Places.{flag_of, load_at, length_at, note_at}
+use Rattle.image_verify.specs.Walk.{Reads, unless, head_fault, fault_at, walk, plan}
 use Rattle.image_verify.specs.Seen.{IsSeen}
 use Rattle.image_verify.specs.Fed.{want_of, IsWithin, Stands, IsFed, IsFull}
 use Rattle.image_verify.proofs.Reading.{walk_head}
 use Rattle.image_verify.proofs.WalkEnds.{fault_none}
 use Rattle.image_verify.proofs.Noted.{noted_push, data_push}
-use Rattle.image_verify.proofs.Steps.{Body, fed_body, fed_after, went_on, went_stays, walk_stays, want_some, counted_past}
+use Rattle.image_verify.proofs.Steps.{fed_body, fed_after, went_on, walk_stays, want_some, counted_past}
 
 -- A part of a head came.
 pub record Came (kept : Reader) (limit : ℕ) (bytes : List ℕ) : Type 0 where

@@ -1,6 +1,6 @@
 -- What a header without a fault tells, and that a header that tells it has none.
-use Rattle.std.proofs.Common.{◌≡◌, ℕ, ◌+◌, ◌<◌, ◌≤◌, ◌≢◌, List, length, take, drop, refl, sym, ap, ◌∙◌, arith}
-use Rattle.std.specs.Prelude.{Bool, true, false, not, Option, Some, None, nat_lt, ◌==◌, ◌&&◌, ◌||◌, slice_index}
+use Rattle.std.proofs.Common.{◌≡◌, ℕ, ◌<◌, ◌≤◌, List, length, drop, refl, sym, ap, arith}
+use Rattle.std.specs.Prelude.{Bool, true, false, not, None, nat_lt, ◌==◌, ◌&&◌, ◌||◌, slice_index}
 use Rattle.std.proofs.lemmas.Bool.Decides.{nat_tests}
 use mathlib.Core.Bool.{true≢false}
 use Rattle.byteorder.specs.Endian.{little_number}

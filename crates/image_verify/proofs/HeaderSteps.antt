@@ -1,5 +1,5 @@
 -- The header comes, and is looked at as far as it has come.
-use Rattle.std.proofs.Common.{◌≡◌, ℕ, zero, suc, ◌+◌, ◌-◌, ◌<◌, ◌≤◌, ◌≢◌, List, [], ◌++◌, length, take, drop, get_or, refl, sym, ap, ◌∙◌, arith, inl, inr, subst}
+use Rattle.std.proofs.Common.{◌≡◌, ℕ, ◌-◌, ◌<◌, ◌≤◌, ◌≢◌, List, [], ◌++◌, length, take, drop, refl, sym, ap, ◌∙◌, arith, inr, subst}
 use Rattle.std.specs.Prelude.{Bool, true, false, Option, Some, None, nat_lt, ◌^◌, if◌then◌else◌, slice_index}
 use Rattle.std.proofs.lemmas.Bool.Decides.{nat_tests}
 use Rattle.std.proofs.lemmas.List.{drop_all, length-append, take_all}
@@ -7,9 +7,7 @@ use Rattle.sha2.specs.declared.Sha256.{Sha256}
 use Rattle.sha2.specs.Hashers.{Holds256}
 use Rattle.image_verify.specs.declared.bad.BadImage.{BadImage}
 use Rattle.image_verify.specs.declared.bad.BadImage.TheVariants.{TooLarge}
-use Rattle.image_verify.specs.declared.info.SegmentNote.{SegmentNote}
 use Rattle.image_verify.specs.declared.reader.Reader.{Reader}
-use Rattle.image_verify.specs.declared.reader.Stage.{Stage}
 use Rattle.image_verify.specs.declared.reader.Stage.TheVariants as stages
 use Rattle.image_verify.specs.declared.seen.Seen.{Seen}
 use Rattle.image_verify.specs.Places.{count_of, flag_of, need_of}

@@ -1,11 +1,10 @@
 -- The image that bytes begin with: at most one, and what the bytes of a slot hold.
-use Rattle.std.proofs.Common.{◌≡◌, ℕ, ◌+◌, ◌-◌, ◌*◌, ◌<◌, ◌≤◌, List, [], ◌∷◌, ◌++◌, length, take, drop, refl, sym, ap, ◌∙◌, arith, subst}
-use Rattle.std.specs.Prelude.{Option, Some, None, min}
-use Rattle.std.proofs.lemmas.List.{append_assoc, append-nil, length-append, length-take, length-take-le, take_all, take_at, take_min, take-append-drop}
+use Rattle.std.proofs.Common.{◌≡◌, ℕ, ◌+◌, ◌≤◌, List, [], ◌∷◌, ◌++◌, length, take, drop, refl, sym, ap, ◌∙◌, arith, subst}
+use Rattle.std.specs.Prelude.{Option, Some, None}
+use Rattle.std.proofs.lemmas.List.{append_assoc, length-append, length-take, length-take-le, take_at, take_min, take-append-drop}
 use Rattle.std.proofs.lemmas.Option.{none-some}
-use Rattle.image_layout.specs.Footer.{footer_end}
 use Rattle.image_layout.specs.Segment.{text}
-use Rattle.image_layout.specs.Whole.{Parts, data_end, summed, IsImage, Whole}
+use Rattle.image_layout.specs.Whole.{data_end, summed, Whole}
 use Rattle.image_verify.specs.declared.bad.BadImage.{BadImage}
 use Rattle.image_verify.specs.declared.info.SegmentNote.{SegmentNote}
 use Rattle.image_verify.specs.Places.{flag_of, need_of}
@@ -13,7 +12,7 @@ use Rattle.image_verify.specs.Walk.{Walk, Faulty, Reads, plan}
 use Rattle.image_verify.specs.Bad.{bad}
 use Rattle.image_verify.specs.Held.{extent_by, extent, faultless, held, IsHeld}
 use Rattle.image_verify.proofs.Reading.{walk_end}
-use Rattle.image_verify.proofs.PlanFacts.{Opened, plan_reads}
+use Rattle.image_verify.proofs.PlanFacts.{plan_reads}
 use Rattle.image_verify.proofs.GoesOn.{byte_stays, onward, plan_onward, plan_faulty}
 use Rattle.image_verify.proofs.WholeFacts.{flag_is, plan_image, summed_long, digest_long, whole_shows_none, whole_from_none}
 

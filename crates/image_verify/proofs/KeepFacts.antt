@@ -1,5 +1,5 @@
 -- The first bytes of what comes, piece by piece.
-use Rattle.std.proofs.Common.{◌≡◌, ℕ, ◌+◌, ◌-◌, ◌<◌, ◌≤◌, List, ◌++◌, length, take, refl, sym, ap, ◌∙◌, arith, inl, inr}
+use Rattle.std.proofs.Common.{◌≡◌, ℕ, ◌+◌, ◌-◌, ◌≤◌, List, ◌++◌, length, take, sym, ap, ◌∙◌, arith, inl, inr}
 use Rattle.std.specs.Prelude.{min, ◌^◌}
 use Rattle.std.proofs.lemmas.Bool.{cases_lt}
 use Rattle.std.proofs.lemmas.List.{length-append, length-take, take-append-le, take_all}
@@ -24,6 +24,7 @@ pub saw_more : (old : Seen) (count : ℕ) (front : List ℕ) (part bytes : List 
     → IsSeen old bytes → (count ≡ counted (length (bytes ++ part))) × (front ≡ take 112 (bytes ++ part))
 saw_more old count front part bytes count_is front_is seen =
     let all = length-append bytes part in
-    let few : length old.front.items ≤ 112 = omega (arith, ap length seen.front, length-take 112 bytes) in
-    (omega (arith, count_is, seen.count, all),
-    front_is few ∙ ap (λ (xs : List ℕ). take 112 (xs ++ part)) seen.front ∙ keep_more 112 bytes part)
+    let few : length old.front.items ≤ 112 = omega (arith, ap length seen.front, length-take 112 bytes) in (
+      omega (arith, count_is, seen.count, all),
+      front_is few ∙ ap (λ (xs : List ℕ). take 112 (xs ++ part)) seen.front ∙ keep_more 112 bytes part,
+    )

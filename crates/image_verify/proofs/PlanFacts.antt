@@ -1,6 +1,6 @@
 -- What is known of a reading that has come past the header.
-use Rattle.std.proofs.Common.{◌≡◌, ℕ, zero, suc, ◌+◌, ◌*◌, ◌<◌, ◌≤◌, List, [], ◌∷◌, ◌++◌, length, take, drop, refl, sym, ap, ◌∙◌, arith, inl, inr, subst}
-use Rattle.std.specs.Prelude.{Bool, true, false, Option, Some, None, nat_lt, ◌⊎◌, if◌then◌else◌, slice_index}
+use Rattle.std.proofs.Common.{◌≡◌, ℕ, zero, suc, ◌+◌, ◌<◌, ◌≤◌, List, [], ◌∷◌, ◌++◌, length, take, drop, refl, sym, ap, ◌∙◌, arith, inl, inr, subst}
+use Rattle.std.specs.Prelude.{Bool, true, false, Option, None, nat_lt, ◌⊎◌, if◌then◌else◌, slice_index}
 use Rattle.std.proofs.lemmas.Bool.{cases_Bool}
 use Rattle.std.proofs.lemmas.Bool.Decides.{nat_tests}
 use Rattle.std.proofs.lemmas.List.{length-take-le, get_or-take, drop-take}
@@ -10,7 +10,7 @@ use Rattle.image_verify.specs.declared.bad.BadImage.{BadImage}
 use Rattle.image_verify.specs.declared.bad.BadImage.TheVariants.{TooLarge}
 use Rattle.image_verify.specs.declared.info.SegmentNote.{SegmentNote}
 use Rattle.image_verify.specs.Places.{count_of, flag_of, load_at, length_at, note_at, need_of}
-use Rattle.image_verify.specs.Walk.{Walk, Faulty, Begins, Reads, fails, limit_fault, unless, header_fault, walk, opened, plan}
+use Rattle.image_verify.specs.Walk.{Begins, Reads, limit_fault, unless, header_fault, walk, opened, plan}
 use Rattle.image_verify.proofs.First.{fails_none, fails_from, unless_reads, unless_begins, begins_no_reads, same_reads}
 use Rattle.image_verify.proofs.Reading.{walk_head, walk_wait, walk_end}
 use Rattle.image_verify.proofs.WalkEnds.{fault_none}
@@ -103,6 +103,7 @@ plan_reads limit bytes heads end notes is =
           within = stops.within;
           stopped = stops.stopped;
         }
+
     by : header_fault (take 24 bytes) ≡ None
         → (if nat_lt (length bytes) 24 then Begins else opened limit bytes) ≡ Reads heads end notes
         → ((nat_lt (length bytes) 24 ≡ true) ⊎ (nat_lt (length bytes) 24 ≡ false))
@@ -135,11 +136,13 @@ pub header_front : (bytes : List ℕ) → IsHeader (take 24 bytes)
     × (little_number 2 (drop 12 bytes) ≡ 0) × (flag_of bytes ≤ 1)
 header_front bytes is =
     let count = front_byte bytes 1 (omega arith) in
-    let flag = front_byte bytes 23 (omega arith) in
-    (sym (front_byte bytes 0 (omega arith)) ∙ is.magic,
-    omega (arith, count, is.some), omega (arith, count, is.most),
-    sym (ap (little_number 2) (drop-take 12 12 bytes) ∙ little_from-take 0 2 12 (drop 12 bytes) (omega arith)) ∙ is.chip,
-    omega (arith, flag, is.flag))
+    let flag = front_byte bytes 23 (omega arith) in (
+      sym (front_byte bytes 0 (omega arith)) ∙ is.magic,
+      omega (arith, count, is.some),
+      omega (arith, count, is.most),
+      sym (ap (little_number 2) (drop-take 12 12 bytes) ∙ little_from-take 0 2 12 (drop 12 bytes) (omega arith)) ∙ is.chip,
+      omega (arith, flag, is.flag),
+    )
 
 -- and back
 pub front_header : (bytes : List ℕ) → slice_index bytes 0 ≡ 0xE9 → 1 ≤ count_of bytes → count_of bytes ≤ 16

@@ -1,14 +1,13 @@
 -- What bytes tell at a place where a segment stands, and one step of the walk.
-use Rattle.std.proofs.Common.{◌≡◌, ℕ, zero, suc, ◌+◌, ◌-◌, ◌*◌, ◌<◌, ◌≤◌, List, [], ◌∷◌, ◌++◌, length, take, drop, refl, sym, ap, ◌∙◌, arith}
-use Rattle.std.specs.Prelude.{Bool, true, false, Option, Some, None, nat_lt}
+use Rattle.std.proofs.Common.{◌≡◌, ℕ, zero, suc, ◌+◌, ◌-◌, ◌≤◌, List, [], ◌∷◌, ◌++◌, length, take, drop, refl, sym, ap, ◌∙◌, arith}
+use Rattle.std.specs.Prelude.{true, false, None, nat_lt}
 use Rattle.std.proofs.lemmas.List.{drop-drop, drop_at, take_at, drop-append-le, length-append, length-drop}
 use Rattle.std.proofs.lemmas.Bool.Decides.{nat_tests}
 use Rattle.byteorder.specs.Endian.{little_number}
 use Rattle.byteorder.specs.Numbers.{little_from-append}
-use Rattle.image_verify.specs.declared.bad.BadImage.{BadImage}
 use Rattle.image_verify.specs.declared.info.SegmentNote.{SegmentNote}
 use Rattle.image_verify.specs.Places.{load_at, length_at, note_at}
-use Rattle.image_verify.specs.Walk.{Walk, Faulty, Reads, fault_at, unless, walk}
+use Rattle.image_verify.specs.Walk.{Reads, fault_at, unless, walk}
 
 -- A segment stands at a place of these bytes.
 pub record Stands (bytes : List ℕ) (at : ℕ) (head content rest : List ℕ) : Type 0 where

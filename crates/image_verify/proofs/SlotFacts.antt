@@ -1,18 +1,18 @@
 -- The bytes of a slot, read as far as they are wanted.
-use Rattle.std.proofs.Common.{◌≡◌, ℕ, zero, suc, ◌+◌, ◌-◌, ◌*◌, ◌<◌, ◌≤◌, List, [], ◌∷◌, ◌++◌, length, take, drop, refl, sym, ap, ◌∙◌, arith, inl, inr, subst}
-use Rattle.std.specs.Prelude.{Option, Some, None, nat_lt, min, true, false, ◌⊎◌}
+use Rattle.std.proofs.Common.{◌≡◌, ℕ, zero, suc, ◌+◌, ◌-◌, ◌≤◌, List, [], ◌∷◌, ◌++◌, length, take, refl, sym, ap, ◌∙◌, arith, inl, inr, subst}
+use Rattle.std.specs.Prelude.{Some, None, nat_lt, min, true, false, ◌⊎◌}
 use Rattle.std.proofs.lemmas.Bool.{cases_Bool}
-use Rattle.std.proofs.lemmas.List.{length-append, length-take, length-take-le, take_all}
+use Rattle.std.proofs.lemmas.List.{length-append, length-take-le, take_all}
 use Rattle.image_verify.specs.declared.bad.BadImage.{BadImage}
 use Rattle.image_verify.specs.declared.info.SegmentNote.{SegmentNote}
-use Rattle.image_verify.specs.Places.{count_of, flag_of, load_at, length_at, note_at, need_of}
+use Rattle.image_verify.specs.Places.{count_of, flag_of, length_at, note_at, need_of}
 use Rattle.image_verify.specs.Walk.{Walk, Faulty, Begins, Reads, walk, plan}
 use Rattle.image_verify.specs.Bad.{bad}
 use Rattle.image_verify.specs.Held.{held}
 use Rattle.image_verify.specs.Fed.{wanted_by}
 use Rattle.image_verify.proofs.First.{unless_reads, same_reads, faulty_reads}
 use Rattle.image_verify.proofs.Reading.{walk_head, walk_wait, walk_end}
-use Rattle.image_verify.proofs.PlanFacts.{Opened, plan_reads, plan_begins}
+use Rattle.image_verify.proofs.PlanFacts.{plan_reads, plan_begins}
 use Rattle.image_verify.proofs.GoesOn.{byte_stays, onward, plan_onward, plan_faulty}
 use Rattle.image_verify.proofs.EndFacts.{heads_none}
 use Rattle.image_verify.proofs.HeldFacts.{held_faulty, held_ends, held_nothing}

@@ -1,11 +1,8 @@
 -- Each step of the reader keeps what it knows of the bytes that came.
-use Rattle.std.proofs.Common.{◌≡◌, ℕ, zero, suc, ◌+◌, ◌-◌, ◌*◌, ◌<◌, ◌≤◌, ◌≢◌, List, [], ◌∷◌, ◌++◌, length, take, drop, get_or, refl, sym, ap, ◌∙◌, arith, inl, inr, subst}
-use Rattle.std.specs.Prelude.{Bool, true, false, Option, Some, None, min, nat_lt, ◌^◌, bit_xor, ◌⊎◌, if◌then◌else◌}
+use Rattle.std.proofs.Common.{◌≡◌, ℕ, zero, suc, ◌+◌, ◌-◌, ◌*◌, ◌<◌, ◌≤◌, List, [], ◌∷◌, ◌++◌, length, take, drop, refl, sym, ap, ◌∙◌, arith, inl, inr, subst}
+use Rattle.std.specs.Prelude.{◌^◌, bit_xor, ◌⊎◌}
 use Rattle.std.proofs.lemmas.Bool.Decides.{nat_tests}
-use Rattle.std.proofs.lemmas.List.{append-nil, drop-append-le, drop_all, length-append, length-drop, length-take, take-append-le, take_all, take-append-drop}
-use Rattle.std.proofs.Math.Seq.{take-add}
-use Rattle.byteorder.specs.Endian.{little_number}
-use Rattle.byteorder.specs.Numbers.{little_from-take}
+use Rattle.std.proofs.lemmas.List.{drop-append-le, drop_all, length-append, length-take, take-append-le, take_all}
 use Rattle.sha2.specs.declared.Sha256.{Sha256}
 use Rattle.sha2.specs.Hashers.{Holds256}
 use Rattle.image_layout.specs.Whole.{xor_all}
@@ -15,18 +12,15 @@ use Rattle.image_verify.specs.declared.reader.Reader.{Reader}
 use Rattle.image_verify.specs.declared.reader.Stage.{Stage}
 use Rattle.image_verify.specs.declared.reader.Stage.TheVariants as stages
 use Rattle.image_verify.specs.declared.seen.Seen.{Seen}
-use Rattle.image_verify.specs.Places.{count_of, flag_of, load_at, length_at, note_at, need_of, data_of}
-use Rattle.image_verify.specs.Walk.{Walk, Faulty, Begins, Reads, unless, header_fault, limit_fault, head_fault, fault_at, walk, opened, plan}
+use Rattle.image_verify.specs.Places.{flag_of, need_of, data_of}
+use Rattle.image_verify.specs.Walk.{Walk, Faulty, Begins, Reads, walk, plan}
 use Rattle.image_verify.specs.Bad.{counted}
 use Rattle.image_verify.specs.Seen.{IsSeen}
-use Rattle.image_verify.specs.Fed.{want_of, AreNoted, IsBeginning, IsWithin, Stands, IsFed, IsHeaded, IsFull}
-use Rattle.image_verify.proofs.Reading.{walk_head, walk_wait, walk_end}
-use Rattle.image_verify.proofs.WalkEnds.{fault_none}
-use Rattle.image_verify.proofs.HeaderFacts.{IsHeader, header_none}
-use Rattle.image_verify.proofs.PlanFacts.{Opened, plan_reads, plan_begins, header_front}
+use Rattle.image_verify.specs.Fed.{want_of, IsWithin, Stands, IsFed}
+use Rattle.image_verify.proofs.Reading.{walk_wait, walk_end}
 use Rattle.image_verify.proofs.GoesOn.{byte_stays, onward, plan_onward, plan_faulty}
 use Rattle.image_verify.proofs.KeepFacts.{keep_more}
-use Rattle.image_verify.proofs.Noted.{noted_data, noted_done, noted_more, noted_push, data_push}
+use Rattle.image_verify.proofs.Noted.{noted_data, noted_done, noted_more}
 
 -- the stages, told apart
 abbrev pub kind : Stage → ℕ

@@ -1,18 +1,16 @@
 -- What the end of the bytes tells of a whole image.
-use Rattle.std.proofs.Common.{◌≡◌, ℕ, List, [], ◌∷◌, ◌++◌, ◌≤◌, length, take, drop, refl, sym, ap, ◌∙◌, arith}
-use Rattle.std.specs.Prelude.{Result, Ok, Err, IsOk, IfOk, IfErr, Option, Some, None, ◌↔◌, IsTrue}
+use Rattle.std.proofs.Common.{◌≡◌, ℕ, List, [], ◌∷◌, ◌++◌, ◌≤◌, length, refl, sym, ap, ◌∙◌, arith}
+use Rattle.std.specs.Prelude.{Result, Ok, Err, IsOk, IfOk, IfErr, Some, ◌↔◌}
 use Rattle.std.proofs.lemmas.List.{append_assoc, length-append}
 use Rattle.std.proofs.lemmas.Option.{none-some}
 use mathlib.Core.Bool.{true≢false}
-use Rattle.byteorder.specs.Endian.{little_number}
 use Rattle.image_layout.specs.Header.{header_of}
 use Rattle.image_layout.specs.Segment.{text}
-use Rattle.image_layout.specs.Whole.{Parts, data_end, summed, IsImage, Whole}
+use Rattle.image_layout.specs.Whole.{data_end, summed, Whole}
 use Rattle.image_verify.specs.declared.bad.BadImage.{BadImage}
 use Rattle.image_verify.specs.declared.info.ImageInfo.{ImageInfo}
 use Rattle.image_verify.specs.declared.reader.Reader.{Reader}
-use Rattle.image_verify.specs.Places.{flag_of, notes_from, need_of}
-use Rattle.image_verify.specs.Walk.{plan, Reads}
+use Rattle.image_verify.specs.Places.{flag_of, need_of}
 use Rattle.image_verify.specs.Bad.{bad}
 use Rattle.image_verify.specs.Fed.{IsFed, IsTold, notes_in}
 use Rattle.image_verify.specs.Info.{IsInfo}

@@ -1,17 +1,17 @@
 -- A walk that ends within the bytes has read segments.
-use Rattle.std.proofs.Common.{◌≡◌, ℕ, zero, suc, ◌+◌, ◌-◌, ◌*◌, ◌%◌, ◌<◌, ◌≤◌, List, [], ◌∷◌, ◌++◌, length, take, drop, refl, sym, ap, ◌∙◌, arith, inl, inr}
-use Rattle.std.specs.Prelude.{Bool, true, false, not, Option, Some, None, nat_lt, ◌==◌, ◌⊎◌}
+use Rattle.std.proofs.Common.{◌≡◌, ℕ, zero, suc, ◌+◌, ◌%◌, ◌≤◌, List, [], ◌∷◌, ◌++◌, length, take, drop, refl, sym, ap, ◌∙◌, arith, inl, inr}
+use Rattle.std.specs.Prelude.{Bool, true, false, not, None, nat_lt, ◌==◌, ◌⊎◌}
 use Rattle.std.proofs.lemmas.Bool.{cases_Bool}
 use Rattle.std.proofs.lemmas.Bool.Decides.{nat_tests}
-use Rattle.std.proofs.lemmas.List.{append_assoc, append-nil, length-append, length-drop, length-take, length-take-le, take-append-drop, drop-drop, drop-take}
+use Rattle.std.proofs.lemmas.List.{append_assoc, append-nil, length-append, length-drop, length-take-le, take-append-drop, drop-drop, drop-take}
 use Rattle.byteorder.specs.Endian.{little_number}
 use Rattle.byteorder.specs.Numbers.{little_from-take}
 use Rattle.image_layout.specs.Space.{may_load}
-use Rattle.image_layout.specs.Segment.{Segment, IsSegment, AreSegments, text, load_of}
+use Rattle.image_layout.specs.Segment.{Segment, IsSegment, AreSegments, text}
 use Rattle.image_verify.specs.declared.bad.BadImage.TheVariants.{Length, Address, TooLarge}
 use Rattle.image_verify.specs.declared.info.SegmentNote.{SegmentNote}
 use Rattle.image_verify.specs.Places.{load_at, length_at, note_at, notes_from, need_of}
-use Rattle.image_verify.specs.Walk.{Walk, Reads, fault_at, head_fault, walk, unless}
+use Rattle.image_verify.specs.Walk.{Reads, head_fault, walk}
 use Rattle.image_verify.proofs.First.{fails_none, first_none, unless_reads, same_reads}
 use Rattle.image_verify.proofs.Reading.{walk_head, walk_wait, walk_end}
 
@@ -130,12 +130,19 @@ more_read limit flag bytes heads at notes heads' end notes' within good rest =
     little_from-take 0 4 8 (drop at bytes) (omega arith) in
     let next : at + 8 + length s.content ≡ at + 8 + len = ap (λ n. at + 8 + n) data_long in
     let all_long : length (text (s ∷ rest.segments)) ≡ 8 + len + length (text rest.segments) =
-    omega (arith, length-append (s.head ++ s.content) (text rest.segments),
-    length-append s.head s.content, long, data_long) in
+    omega (
+      arith,
+      length-append (s.head ++ s.content) (text rest.segments),
+      length-append s.head s.content,
+      long,
+      data_long,
+    ) in
     record {
       segments = s ∷ rest.segments;
-      are = (is_segment bytes at len refl inside limit flag heads good,
-      subst_place (sym next) rest.are);
+      are = (
+        is_segment bytes at len refl inside limit flag heads good,
+        subst_place (sym next) rest.are,
+      );
       stands = segment_parts bytes at len refl inside
           ∙ ap (λ (xs : List ℕ). s.head ++ (s.content ++ xs)) rest.stands
           ∙ sym (apart s rest.segments);
@@ -147,9 +154,11 @@ more_read limit flag bytes heads at notes heads' end notes' within good rest =
   where
     subst_place : {here there : ℕ} → here ≡ there → AreSegments here rest.segments → AreSegments there rest.segments
     subst_place is are = rw (sym is) are
+
     apart : (s : Segment) (ss : List Segment)
         → text (s ∷ ss) ++ drop end bytes ≡ s.head ++ (s.content ++ (text ss ++ drop end bytes))
     apart s ss = simp append_assoc
+
     noted_here : little_number 4 (take 8 (drop at bytes)) ≡ load_at bytes at
         → length (take (length_at bytes at) (drop (at + 8) bytes)) ≡ length_at bytes at
         → notes_from at (record { head = take 8 (drop at bytes); content = take (length_at bytes at) (drop (at + 8) bytes) } ∷ rest.segments)

@@ -1,16 +1,13 @@
 -- A walk over the text of segments reads them.
-use Rattle.std.proofs.Common.{◌≡◌, ℕ, zero, suc, ◌+◌, ◌-◌, ◌*◌, ◌/◌, ◌%◌, ◌<◌, ◌≤◌, List, [], ◌∷◌, ◌++◌, length, take, drop, refl, sym, ap, ◌∙◌, arith}
-use Rattle.std.specs.Prelude.{Bool, true, false, not, Option, Some, None, nat_lt, ◌==◌}
+use Rattle.std.proofs.Common.{◌≡◌, ℕ, ◌+◌, ◌*◌, ◌%◌, ◌≤◌, List, [], ◌∷◌, ◌++◌, length, drop, refl, sym, ap, ◌∙◌, arith}
+use Rattle.std.specs.Prelude.{true, false, not, None, nat_lt, ◌==◌}
 use Rattle.std.proofs.lemmas.Bool.Decides.{nat_tests}
 use Rattle.std.proofs.lemmas.List.{append_assoc, append-nil, length-append}
-use Rattle.byteorder.specs.Endian.{little_number}
-use Rattle.image_layout.specs.Footer.{footer_end}
-use Rattle.image_layout.specs.Space.{may_load}
 use Rattle.image_layout.specs.Segment.{Segment, IsSegment, AreSegments, text, contents, load_of}
 use Rattle.image_verify.specs.declared.bad.BadImage.TheVariants.{Length, Address, TooLarge}
 use Rattle.image_verify.specs.declared.info.SegmentNote.{SegmentNote}
-use Rattle.image_verify.specs.Places.{load_at, length_at, note_at, notes_from, need_of, data_of}
-use Rattle.image_verify.specs.Walk.{Walk, Reads, fault_at, head_fault, walk}
+use Rattle.image_verify.specs.Places.{length_at, note_at, notes_from, need_of, data_of}
+use Rattle.image_verify.specs.Walk.{Reads, fault_at, head_fault, walk}
 use Rattle.image_verify.proofs.First.{fails_from, first_from}
 use Rattle.image_verify.proofs.Reading.{Stands, stands_load, stands_length, stands_content, stands_rest, stands_within, walk_step, walk_end}
 

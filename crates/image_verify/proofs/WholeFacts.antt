@@ -1,26 +1,24 @@
 -- Bytes show no fault exactly where they are a whole image.
-use Rattle.std.proofs.Common.{◌≡◌, ℕ, zero, suc, ◌+◌, ◌-◌, ◌*◌, ◌/◌, ◌%◌, ◌<◌, ◌≤◌, List, [], ◌∷◌, ◌++◌, length, take, drop, get_or, refl, sym, ap, ◌∙◌, arith, inl, inr, subst}
-use Rattle.std.specs.Prelude.{Bool, true, false, not, Option, Some, None, nat_lt, ◌==◌, ◌&&◌, ◌⊎◌, if◌then◌else◌, slice_index, bytes_eq}
+use Rattle.std.proofs.Common.{◌≡◌, ℕ, zero, suc, ◌+◌, ◌-◌, ◌*◌, ◌<◌, ◌≤◌, List, [], ◌∷◌, ◌++◌, length, take, drop, get_or, refl, sym, ap, ◌∙◌, arith, inl, inr, subst}
+use Rattle.std.specs.Prelude.{Bool, true, false, not, None, nat_lt, ◌==◌, ◌&&◌, ◌⊎◌, slice_index, bytes_eq}
 use Rattle.std.proofs.lemmas.Bool.{cases_Bool}
 use Rattle.std.proofs.lemmas.Bool.Decides.{nat_tests}
-use Rattle.std.proofs.lemmas.List.{append_assoc, drop-drop, drop_all, drop_at, drop_more, get_or-drop, get_or_append_left, get_or_at, length-append, length-drop, length-take-le, take-append-drop, take_all, take_at}
+use Rattle.std.proofs.lemmas.List.{append_assoc, drop-drop, drop_all, drop_at, drop_more, get_or_append_left, get_or_at, length-append, length-drop, length-take-le, take-append-drop, take_all, take_at}
 use Rattle.std.proofs.lemmas.Option.{none-some}
 use Rattle.std.proofs.lemmas.Slice.Eq.{bytes_eq-Decides}
-use Rattle.byteorder.specs.Endian.{little_number}
 use Rattle.sha2.specs.Sha256.{sha256}
 use Rattle.sha2.proofs.Facts256.{length-sha256}
 use Rattle.image_layout.specs.Footer.{footer_end}
-use Rattle.image_layout.specs.Segment.{Segment, AreSegments, text, contents}
+use Rattle.image_layout.specs.Segment.{text, contents}
 use Rattle.image_layout.specs.Whole.{Parts, data_end, summed, xor_all, IsImage, Whole}
-use Rattle.image_verify.specs.declared.bad.BadImage.{BadImage}
 use Rattle.image_verify.specs.declared.bad.BadImage.TheVariants.{Short, Trailing, Checksum, Digest}
 use Rattle.image_verify.specs.declared.info.SegmentNote.{SegmentNote}
 use Rattle.image_verify.specs.Places.{count_of, flag_of, notes_from, need_of, data_of}
 use Rattle.image_verify.specs.Walk.{Walk, Faulty, Begins, Reads, plan, walk}
 use Rattle.image_verify.specs.Bad.{bad, counted, late, length_fault, footer_fault, checksum_fault, digest_fault}
 use Rattle.image_verify.proofs.First.{fails_none, fails_from, first_none, first_from}
-use Rattle.image_verify.proofs.WalkText.{heads_fit, need_grows, walk_text, data_text}
-use Rattle.image_verify.proofs.WalkEnds.{HasRead, walk_ends}
+use Rattle.image_verify.proofs.WalkText.{heads_fit, walk_text, data_text}
+use Rattle.image_verify.proofs.WalkEnds.{walk_ends}
 use Rattle.image_verify.proofs.HeaderFacts.{IsHeader, and_false, not_false}
 use Rattle.image_verify.proofs.PlanFacts.{Opened, plan_reads, plan_opens, plan_begins, header_front, front_byte}
 
@@ -224,7 +222,11 @@ module _ (limit : ℕ) (bytes : List ℕ) (heads end : ℕ) (notes : List Segmen
       let checksum = slice_index bytes (foot - 1) in
       let digest = drop foot bytes in
       let p : Parts = record {
-        header = header; segments = segments; padding = padding; checksum = checksum; digest = digest;
+        header = header;
+        segments = segments;
+        padding = padding;
+        checksum = checksum;
+        digest = digest;
       } in
       let need : length bytes ≡ foot + 32 * flag_of bytes =
       omega (arith, ends.long, none) in

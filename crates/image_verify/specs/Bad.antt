@@ -1,5 +1,5 @@
 -- The first case that shows that bytes are no whole image within a limit.
-use Rattle.std.specs.Prelude.{ℕ, ◌-◌, ◌^◌, ◌==◌, Bool, not, ◌&&◌, nat_lt, min, List, length, take, drop, slice_index, bytes_eq, Option, Some, None}
+use Rattle.std.specs.Prelude.{ℕ, ◌-◌, ◌^◌, ◌==◌, not, ◌&&◌, nat_lt, min, List, length, take, drop, slice_index, bytes_eq, Option, Some, None}
 use Rattle.sha2.specs.Sha256.{sha256}
 use Rattle.image_layout.specs.Footer.{footer_end}
 use Rattle.image_layout.specs.Whole.{xor_all}

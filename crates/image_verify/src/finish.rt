@@ -63,13 +63,7 @@ impl Reader {
 }
 
 /// The first fault of a footer: the bytes after the last data, of which the checksum byte ends at `foot`.
-fn footer_fault(
-    mut hasher: Sha256,
-    kept: &[u8],
-    foot: usize,
-    sum: u8,
-    flag: u8,
-) -> Option<BadImage>
+fn footer_fault(mut hasher: Sha256, kept: &[u8], foot: usize, sum: u8, flag: u8) -> Option<BadImage>
     requires some { 1 ≤ foot }
     requires flagged { flag ≤ 1 }
     requires whole { length kept.now ≡ foot + 32 * flag }

@@ -11,6 +11,8 @@ mod laws;
 mod reader;
 mod seen;
 mod slot;
+#[cfg(test)]
+mod tests;
 mod verifier;
 
 pub use bad::BadImage;

@@ -1,7 +1,7 @@
 use Rattle.std.proofs.Common.{◌≡◌, ℕ, List, ◌+◌, ◌-◌, ◌≤◌, ◌++◌, length, take, drop, ap, ◌∙◌, sym, arith, subst, refl}
 use Rattle.std.proofs.Math.Seq.{take-add}
-use Rattle.std.proofs.lemmas.List.{length-drop, length-take, length-take-le}
-use Rattle.std.specs.Prelude.{IfOk, IfErr, min, Result, Ok, Err, Option, Some, None, IsOk, ◌↔◌}
+use Rattle.std.proofs.lemmas.List.{length-take}
+use Rattle.std.specs.Prelude.{IfOk, IfErr, min, Result, Ok, Err, Some, None, IsOk, ◌↔◌}
 use Rattle.image_layout.specs.Whole.{Whole}
 use Rattle.image_verify.specs.declared.bad.BadImage.{BadImage}
 use Rattle.image_verify.specs.declared.info.ImageInfo.{ImageInfo}

@@ -1,5 +1,5 @@
-use Rattle.std.proofs.Common.{◌≡◌, ◌∙◌, ◌-◌, ◌≤◌, ℕ, List, ap, length, drop, take, sym, arith, refl}
-use Rattle.std.specs.Prelude.{Option, None, Some, IsTrue, ◌↔◌, ◌==◌, true}
+use Rattle.std.proofs.Common.{◌≡◌, ◌∙◌, ◌-◌, ℕ, List, ap, length, drop, take, sym, arith}
+use Rattle.std.specs.Prelude.{IsTrue, ◌↔◌, ◌==◌, true}
 use Rattle.std.proofs.lemmas.List.{length-drop, length-take, take_rest}
 use Rattle.byteorder.specs.Endian.{little_number}
 use Rattle.image_layout.specs.Description.{description_of}
@@ -63,8 +63,15 @@ read_u32-requires c =
     let k = c.requires.known in
     let b = fed_body v k.limit k.bytes k.fed c.requires.body in
     let front = c.deref-2.result.now in
-    omega (arith, ap length (take_rest front 4), length-drop 4 front, ap length c.deref-2.ensures.0, ap length k.fed.seen.front,
-    length-take 112 k.bytes, b.within.long)
+    omega (
+      arith,
+      ap length (take_rest front 4),
+      length-drop 4 front,
+      ap length c.deref-2.ensures.0,
+      ap length k.fed.seen.front,
+      length-take 112 k.bytes,
+      b.within.long,
+    )
 
 -- a whole image
 pub returns-clause-ok : goal.returns-clause-ok

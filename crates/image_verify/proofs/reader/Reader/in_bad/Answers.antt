@@ -1,4 +1,4 @@
-use Rattle.std.proofs.Common.{ℕ, List, ◌++◌, length, subst, sym, arith, take}
+use Rattle.std.proofs.Common.{ℕ, List, ◌++◌, length, subst, sym, arith}
 use Rattle.std.proofs.lemmas.List.{take_all}
 use Rattle.image_verify.specs.Fed.{IsFed}
 use Rattle.image_verify.proofs.Steps.{fed_bad}

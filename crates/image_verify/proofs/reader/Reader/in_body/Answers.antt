@@ -1,4 +1,4 @@
-use Rattle.std.proofs.Common.{◌≤◌, arith}
+use Rattle.std.proofs.Common.{arith}
 use Rattle.image_verify.proofs.Bounds.{bounded}
 use Rattle.image_verify.proofs.reader.Reader.in_body.Goals as goal
 

@@ -1,6 +1,6 @@
 use Rattle.std.proofs.Common.{arith}
 use Rattle.std.proofs.lemmas.List.{length-take}
-use Rattle.image_verify.proofs.Steps.{Body, fed_body, fed_data}
+use Rattle.image_verify.proofs.Steps.{fed_body, fed_data}
 use Rattle.image_verify.proofs.reader.Reader.in_data.Goals as goal
 
 -- the data go into checksum and digest

@@ -1,8 +1,8 @@
-use Rattle.std.proofs.Common.{◌≡◌, ◌∙◌, ap, refl, sym, arith}
+use Rattle.std.proofs.Common.{◌∙◌, ap, refl, sym, arith}
 use Rattle.std.proofs.lemmas.List.{length-take}
 use Rattle.image_verify.specs.declared.reader.Reader.{Reader}
 use Rattle.image_verify.specs.Walk.{header_fault}
-use Rattle.image_verify.proofs.HeaderSteps.{Coming, fed_header, header_bad, header_waits, header_whole}
+use Rattle.image_verify.proofs.HeaderSteps.{fed_header, header_bad, header_waits, header_whole}
 use Rattle.image_verify.proofs.reader.Reader.in_header.Goals as goal
 
 -- the fault of the header is told

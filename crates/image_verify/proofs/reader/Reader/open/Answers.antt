@@ -1,6 +1,5 @@
-use Rattle.std.proofs.Common.{◌≡◌, ◌∙◌, ◌++◌, List, ℕ, ap, get_or, refl, sym, arith, subst}
+use Rattle.std.proofs.Common.{◌∙◌, ◌++◌, List, ℕ, ap, get_or, sym, subst}
 use Rattle.sha2.specs.Hashers.{Holds256}
-use Rattle.image_verify.specs.Places.{need_of}
 use Rattle.image_verify.specs.Walk.{limit_fault}
 use Rattle.image_verify.proofs.HeaderSteps.{open_bad, open_body}
 use Rattle.image_verify.proofs.reader.Reader.open.Goals as goal
