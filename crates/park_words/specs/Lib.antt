@@ -1,3 +1,5 @@
+pub mod TwoSeats
 pub mod Views
+pub mod Story
 pub mod Rule
 pub mod Told

@@ -1,28 +1,30 @@
 //! Rows of steps on one thread, and two threads that take turns.
-ghost use Rattle.std.specs.Prelude.{◌≡◌, ◌+◌, ◌<◌, true, false, [], sum, slice_index_or, replicate, None, Some, ◌-◌, IsSome, IfSome};
+ghost use Rattle.std.specs.Prelude.{◌≡◌, ◌+◌, ◌<◌, true, false, [], ◌∷◌, sum, slice_index_or, replicate, None, Some, ◌-◌, IsSome, IfSome, OnSome, ⊤};
 ghost use Rattle.std.specs.Thread.{IsSync};
 ghost use Rattle.core_state.specs.Registers.{starting, restored};
+ghost use Rattle.core_state.specs.Sharing.{GoesOn};
 ghost use Rattle.duo_machine.specs.declared.machine.Phase.TheVariants.{Owning};
 ghost use Rattle.park_words.specs.Views.{IsIdle};
 ghost use Rattle.park_words.specs.Told.{Known, Gives, given};
 
 use crate::{CoreSeat, Seen, Words};
 use core_state::{Record, Records, Regs, restore};
+use duo_machine::{Kind, Phase};
 use std::alloc::Global;
 use std::sync::Wait;
 use std::thread;
 use std::thread::{Threads, join};
 
-/// What both cores added up, and how often the turn was taken.
+/// What both cores added up.
 #[derive(Drop)]
 struct Tally {
     registers: [Record; 2],
     running: Option<u8>,
     total: u64,
-    rounds: u64,
 }
 
 impl Tally {
+    /// Both cores at rest, and nothing added.
     fn new() -> Tally
         ensures registers { result.registers ≡ replicate 2 starting }
         ensures rest { (result.running ≡ None) × (result.total ≡ 0) }
@@ -31,12 +33,10 @@ impl Tally {
             registers: [Record::starting(); 2],
             running: None,
             total: 0,
-            rounds: 0,
         }
     }
-}
 
-impl Tally {
+    /// The core's own registers in force again.
     fn put_back(&mut self, core: u8)
         requires core { core < 2 }
         requires saved { IsSome (slice_index_or self.old.registers core starting).saved }
@@ -45,6 +45,19 @@ impl Tally {
         ensures rest { (self.new.running ≡ self.old.running) × (self.new.total ≡ self.old.total) }
     {
         restore(&mut self.registers[usize::from(core)]);
+    }
+
+    /// One more, where there is room: what was added.
+    fn add_one(&mut self, _core: u8) -> u64
+        requires core { _core < 2 }
+        ensures goes_on { GoesOn ⟦<Tally as Records>⟧.stands (λ b c items. ⊤) self.old self.new _core (result ∷ []) }
+        ensures rest { (self.new.registers ≡ self.old.registers) × (self.new.running ≡ self.old.running) }
+    {
+        let Some(total) = self.total.checked_add(1) else {
+            return 0;
+        };
+        self.total = total;
+        1
     }
 }
 
@@ -68,12 +81,12 @@ impl Records for Tally {
     }
 }
 
-/// Gives the value back, with at most one event done to it and nothing new in the share.
-fn give_done<V: Records>(words: &Words<V>, seat: &mut CoreSeat<V>, value: V)
+/// Gives the value back, with no event done to it and nothing new in the share.
+fn give_nothing<V: Records>(words: &Words<V>, seat: &mut CoreSeat<V>, value: V)
     requires table { seat.old.table ≡ words.now }
     requires turn { seat.old.view.turn ≡ true }
-    requires value { Gives V.records V.runs V.stands seat.old.view value seat.old.view.share }
-    ensures { seat.new ≡ given V.records V.runs seat.old value seat.old.view.share }
+    requires value { Gives V.records V.runs V.stands seat.old.view value (record { event = None; items = [] }) }
+    ensures { seat.new ≡ given V.records V.runs seat.old value [] seat.new.view.seen }
 {
     words.give_turn(seat, value);
 }
@@ -83,9 +96,29 @@ fn give_back<V: Records>(words: &Words<V>, seat: &mut CoreSeat<V>, value: V)
     requires table { seat.old.table ≡ words.now }
     requires turn { seat.old.view.turn ≡ true }
     requires same { Known V.records V.runs V.stands value seat.old.view }
-    ensures { seat.new ≡ given V.records V.runs seat.old value seat.old.view.share }
+    ensures { seat.new ≡ given V.records V.runs seat.old value [] seat.new.view.seen }
 {
-    give_done(words, seat, value);
+    give_nothing(words, seat, value);
+}
+
+/// Gives the value back with this event done to it.
+fn give_event<V: Records>(words: &Words<V>, seat: &mut CoreSeat<V>, value: V, event: Kind)
+    requires table { seat.old.table ≡ words.now }
+    requires turn { seat.old.view.turn ≡ true }
+    requires value { Gives V.records V.runs V.stands seat.old.view value (record { event = Some event; items = [] }) }
+    ensures { seat.new ≡ given V.records V.runs seat.old value [] seat.new.view.seen }
+{
+    words.give_said(seat, value, &event);
+}
+
+/// Gives the sum back with this added to it.
+fn give_added(words: &Words<Tally>, seat: &mut CoreSeat<Tally>, tally: Tally, amount: u64)
+    requires table { seat.old.table ≡ words.now }
+    requires turn { seat.old.view.turn ≡ true }
+    requires value { Gives ⟦<Tally as Records>⟧.records ⟦<Tally as Records>⟧.runs ⟦<Tally as Records>⟧.stands seat.old.view tally (record { event = None; items = amount ∷ [] }) }
+    ensures { seat.new ≡ given ⟦<Tally as Records>⟧.records ⟦<Tally as Records>⟧.runs seat.old tally (amount ∷ []) seat.new.view.seen }
+{
+    words.give_said(seat, tally, &amount);
 }
 
 /// Puts the core's own registers back in force, where the turn is free.
@@ -102,11 +135,13 @@ fn restore_own(words: &Words<Tally>, seat: &mut CoreSeat<Tally>) -> Option<Recor
     };
     tally.put_back(seat.core());
     let own = tally.record(seat.core());
-    give_done(words, seat, tally);
+    give_event(words, seat, tally, Kind::Back);
     Some(own)
 }
 
-fn turns(alloc: Global) -> Option<u64> {
+/// The turn of one core at a time: the number that a refused core read, and whether core 1 had the turn
+/// then and later.
+fn turns(alloc: Global) -> Option<(u64, bool, bool)> {
     let Ok((words, mut zero, mut one)) = Words::new(alloc, Tally::new()) else {
         return None;
     };
@@ -117,15 +152,18 @@ fn turns(alloc: Global) -> Option<u64> {
         return None;
     };
     give_back(&words, &mut zero, tally);
+    let refused = one.has_turn();
     let Ok(tally) = words.take_turn(&mut one) else {
         return None;
     };
+    let taken = one.has_turn();
     give_back(&words, &mut one, tally);
     let _tally = words.close(zero, one);
-    Some(word)
+    Some((word, refused, taken))
 }
 
-fn lock_and_back(alloc: Global) -> Option<(u64, Record)> {
+/// Core 1 has the lock: the number that core 0 read, the registers that core 1 got back, its phase at the end.
+fn lock_and_back(alloc: Global) -> Option<(u64, Record, Phase)> {
     let Ok((words, mut zero, mut one)) = Words::new(alloc, Tally::new()) else {
         return None;
     };
@@ -148,9 +186,10 @@ fn lock_and_back(alloc: Global) -> Option<(u64, Record)> {
         return None;
     };
     words.give_lock(&mut one);
-    Some((taken.word, own))
+    Some((taken.word, own, one.phase()))
 }
 
+/// Core 0 holds core 1 at rest: the numbers that a refused ask and a refused start read.
 fn held_at_rest(alloc: Global) -> Option<(u64, u64)> {
     let Ok((words, mut zero, mut one)) = Words::new(alloc, Tally::new()) else {
         return None;
@@ -177,6 +216,7 @@ fn held_at_rest(alloc: Global) -> Option<(u64, u64)> {
     Some((asked.word, held.word))
 }
 
+/// Core 0 parks core 1: the numbers that refused calls read, and whether core 1 was asked.
 fn parked(alloc: Global) -> Option<([u64; 4], bool)> {
     let Ok((words, mut zero, mut one)) = Words::new(alloc, Tally::new()) else {
         return None;
@@ -223,8 +263,20 @@ fn parked(alloc: Global) -> Option<([u64; 4], bool)> {
 fn rows_of_steps(rt: HostRuntime) {
     assert_eq!(rt;
         turns(rt.alloc()),
-        Some(1),
+        Some((1, false, true)),
         "turn of 0, turn of 1, back, turn of 1"
+    );
+    assert_eq!(rt;
+        lock_and_back(rt.alloc()),
+        Some((
+            2,
+            Record {
+                regs: Regs { mask: 3, irq: 1 },
+                saved: None,
+            },
+            Phase::Running
+        )),
+        "core 1 takes the lock, gets its registers back and gives the lock back"
     );
     assert_eq!(rt;
         held_at_rest(rt.alloc()),
@@ -238,7 +290,8 @@ fn rows_of_steps(rt: HostRuntime) {
     );
 }
 
-fn take_and_give<R: Wait>(rt: &R, words: &Words<Tally>, seat: &mut CoreSeat<Tally>)
+/// One turn, in which this core adds one, once the turn is free.
+fn take_and_add<R: Wait>(rt: &R, words: &Words<Tally>, seat: &mut CoreSeat<Tally>)
     requires table { seat.old.table ≡ words.now }
     requires idle { seat.old.view.turn ≡ false }
     ensures table { seat.new.table ≡ seat.old.table }
@@ -247,14 +300,15 @@ fn take_and_give<R: Wait>(rt: &R, words: &Words<Tally>, seat: &mut CoreSeat<Tall
 {
     for _ in rt.forever() {
         if let Ok(mut tally) = words.take_turn(seat) {
-            tally.rounds = tally.rounds.wrapping_add(1);
-            give_back(words, seat, tally);
+            let amount = tally.add_one(seat.core());
+            give_added(words, seat, tally, amount);
             return;
         }
         thread::yield_now();
     }
 }
 
+/// So many turns, in each of which this core adds one.
 fn take_turns<R: Wait>(
     rt: &R,
     words: &Words<Tally>,
@@ -268,11 +322,12 @@ fn take_turns<R: Wait>(
     ensures idle { result.view.turn ≡ false }
 {
     for _ in 0..rounds {
-        take_and_give(rt, words, &mut seat);
+        take_and_add(rt, words, &mut seat);
     }
     seat
 }
 
+/// Two threads with 3,000 turns each: what they added up.
 fn two_threads<R: Threads + Wait + Sync>(rt: &R, alloc: Global) -> Option<u64> {
     let Ok((words, zero, one)) = Words::new(alloc, Tally::new()) else {
         return None;
@@ -290,7 +345,7 @@ fn two_threads<R: Threads + Wait + Sync>(rt: &R, alloc: Global) -> Option<u64> {
         { take_turns(rt, shared, one, 3000) },
     );
     let tally = words.close(zero, one);
-    Some(tally.rounds)
+    Some(tally.total)
 }
 
 #[test]

@@ -1,0 +1,257 @@
+-- Runs of both cores' steps: a run with more at its end, safety, and what a step adds to a story.
+use Rattle.std.proofs.Common.{◌≡◌, ◌≢◌, ◌==◌, ℕ, zero, suc, ◌+◌, ◌<◌, ◌++◌, ◌∙◌, ap, subst, sym, refl, inl, Bool, true, false, List, [], ◌∷◌, Option, Some, None, ne_eqb, eq-eqb, append-nil, append_assoc, arith}
+use Rattle.std.specs.Prelude.{if◌then◌else◌}
+use Rattle.core_state.specs.Registers.{starting}
+use Rattle.duo_machine.specs.declared.machine.Gate.TheVariants.{Rest as AtRest}
+use Rattle.duo_machine.specs.declared.machine.Phase.TheVariants.{Resting, Owning, Quiet}
+use Rattle.duo_machine.specs.declared.machine.Machine.{Machine}
+use Rattle.duo_machine.specs.declared.events.Kind.{Kind}
+use Rattle.duo_machine.specs.declared.events.Event.{Event}
+use Rattle.duo_machine.specs.Machine.{other, gate_of, first_machine}
+use Rattle.duo_machine.specs.Table.{Allows, changed, CanHappen, after}
+use Rattle.duo_machine.specs.Safe.{SafeAt, SafeFor, Safe}
+use Rattle.duo_machine.specs.Runs.{AreOfTwoCores, CanRun, after_all}
+use Rattle.duo_machine.proofs.RunLemmas.{run_keeps_safe, safe_run}
+use Rattle.park_words.specs.declared.view.Act.{Act}
+use Rattle.park_words.specs.declared.view.Act.TheVariants.{Made, Took, Gave}
+use Rattle.park_words.specs.declared.view.Entry.{Entry}
+use Rattle.park_words.specs.declared.view.View.{View}
+use Rattle.park_words.specs.Views.{gate_word, held_gate}
+use Rattle.park_words.specs.Story.{entry, done_by, AreOfBothCores, event_of, events_of, turn_by, turn_after, NeedsTurn, MayAct, KeepTurns, machine_at, turn_at, word_of, word_at, CanBeMade, Leads, Saw, Story, StoriesAreSafe, handed, Agrees, Went, Looks, Ran}
+use Rattle.park_words.proofs.MachineSteps.{Steps}
+
+-- a core at rest as at the start, beside another one
+at_rest : (c o : ℕ) → c + o ≡ 1 → SafeAt c 0 AtRest Resting Resting starting None
+at_rest c o apart = record {
+  lock_fits = grind arith;
+  gate_fits = grind arith;
+  gate_has_reason = grind arith;
+  step_fits = grind arith;
+  registers_fit = grind arith;
+}
+
+-- the first machine is safe
+pub first_safe : Safe first_machine
+first_safe = record {
+  two_cores = record { gates = refl; phases = refl; records = refl };
+  zero_safe = at_rest 0 1 refl;
+  one_safe = at_rest 1 0 refl;
+}
+
+-- entries of both cores have events of both cores
+events_two : (es : List Entry) → AreOfBothCores es → AreOfTwoCores (events_of es)
+events_two [] two = tt
+events_two (e ∷ es) two = of_act e.act (events_two es two.1)
+  where
+    of_act : (act : Act) → AreOfTwoCores (events_of es)
+        → AreOfTwoCores (event_of e.core act (events_of es))
+    of_act (Made kind) rest = (two.0, rest)
+    of_act Took rest = rest
+    of_act Gave rest = rest
+
+-- a run that may be made leads to a safe machine
+pub run_safe : (run : List Entry) → CanBeMade run → Safe (machine_at run)
+run_safe run made =
+    run_keeps_safe first_machine (events_of run) first_safe (events_two run made.two) made.can
+
+pub story_safe : (m : Machine) (turn c o : ℕ) (mine theirs : List Entry)
+    → Story m turn c o mine theirs → Safe m
+story_safe m turn c o mine theirs s = subst Safe s.leads.there (run_safe s.run s.leads.made)
+
+-- the run of a story is a safe run
+pub stories_are_safe : StoriesAreSafe
+stories_are_safe = λ m turn c o mine theirs s.
+    safe_run first_machine (events_of s.run) first_safe (events_two s.run s.leads.made.two)
+    s.leads.made.can
+
+-- a safe machine is safe for each core
+pub safe_for : (m : Machine) (c : ℕ) → c < 2 → Safe m → SafeFor m c
+safe_for m zero small safe = safe.zero_safe
+safe_for m (suc zero) small safe = safe.one_safe
+safe_for m (suc (suc c)) small safe = absurd (omega arith)
+
+-- a run with one more at its end
+two_end : (es : List Entry) (e : Entry) → AreOfBothCores es → e.core < 2
+    → AreOfBothCores (es ++ e ∷ [])
+two_end [] e two small = (small, tt)
+two_end (x ∷ es) e two small = (two.0, two_end es e two.1 small)
+
+can_end : (m : Machine) (events : List Event) (e : Event) → CanRun m events
+    → CanHappen (after_all m events) e → CanRun m (events ++ e ∷ [])
+can_end m [] e can happens = (happens, tt)
+can_end m (x ∷ events) e can happens = (can.0, can_end (after m x) events e can.1 happens)
+
+reached_end : (m : Machine) (events : List Event) (e : Event)
+    → after_all m (events ++ e ∷ []) ≡ after (after_all m events) e
+reached_end m [] e = refl
+reached_end m (x ∷ events) e = reached_end (after m x) events e
+
+turns_end : (t : ℕ) (es : List Entry) (e : Entry) → KeepTurns t es
+    → MayAct (turn_after t es) e.core e.act → KeepTurns t (es ++ e ∷ [])
+turns_end t [] e turns may = (may, tt)
+turns_end t (x ∷ es) e turns may =
+    (turns.0, turns_end (turn_by t x.core x.act) es e turns.1 may)
+
+turn_end : (t : ℕ) (es : List Entry) (e : Entry)
+    → turn_after t (es ++ e ∷ []) ≡ turn_by (turn_after t es) e.core e.act
+turn_end t [] e = refl
+turn_end t (x ∷ es) e = turn_end (turn_by t x.core x.act) es e
+
+event_append : (c : ℕ) (act : Act) (a b : List Event)
+    → event_of c act (a ++ b) ≡ event_of c act a ++ b
+event_append c (Made kind) a b = refl
+event_append c Took a b = refl
+event_append c Gave a b = refl
+
+events_append : (a b : List Entry) → events_of (a ++ b) ≡ events_of a ++ events_of b
+events_append [] b = refl
+events_append (e ∷ a) b = ap (event_of e.core e.act) (events_append a b)
+    ∙ event_append e.core e.act (events_of a) (events_of b)
+
+own_append : (c : ℕ) (a b : List Entry) → done_by c (a ++ b) ≡ done_by c a ++ done_by c b
+own_append c [] b = refl
+own_append c (e ∷ a) b = choose (e.core == c) (own_append c a b)
+  where
+    choose : (t : Bool) → done_by c (a ++ b) ≡ done_by c a ++ done_by c b
+        → (if t then e ∷ done_by c (a ++ b) else done_by c (a ++ b))
+        ≡ (if t then e ∷ done_by c a else done_by c a) ++ done_by c b
+    choose true h = ap (λ x. e ∷ x) h
+    choose false h = h
+
+-- the own entries of two parts
+pub own_both : (c : ℕ) (a b x y : List Entry) → done_by c a ≡ x → done_by c b ≡ y
+    → done_by c (a ++ b) ≡ x ++ y
+own_both c a b x y e f = own_append c a b ∙ (λ k. e k ++ f k)
+
+-- an entry of a core is none of another one's
+pub none_own : (c o : ℕ) (act : Act) (es : List Entry) → c ≢ o
+    → done_by o (entry c act ∷ es) ≡ done_by o es
+none_own c o act es apart =
+    ap (λ b. if b then entry c act ∷ done_by o es else done_by o es) (ne_eqb c o apart)
+
+-- it is one of its own
+pub mine_own : (c : ℕ) (act : Act) (es : List Entry)
+    → done_by c (entry c act ∷ es) ≡ entry c act ∷ done_by c es
+mine_own c act es =
+    ap (λ b. if b then entry c act ∷ done_by c es else done_by c es) (eq-eqb c c refl)
+
+pub none_handed : (c o : ℕ) (kind : Option Kind) → c ≢ o → done_by o (handed c kind) ≡ []
+none_handed c o None apart = none_own c o Gave [] apart
+none_handed c o (Some kind) apart =
+    none_own c o (Made kind) (entry c Gave ∷ []) apart ∙ none_own c o Gave [] apart
+
+module _ (run : List Entry) (m : Machine) (turn : ℕ) (l : Leads run m turn) where
+  -- the same run leads on by nothing
+  pub leads_none : Leads (run ++ []) m turn
+  leads_none = subst (λ r. Leads r m turn) (sym (append-nil run)) l
+
+  -- it leads on by an event of the machine
+  pub leads_made : (c : ℕ) (kind : Kind) → c < 2 → Allows m c kind
+      → (NeedsTurn kind → turn ≡ c + 1)
+      → Leads (run ++ entry c (Made kind) ∷ []) (changed m c kind) turn
+  leads_made c kind small allowed need =
+      let e = entry c (Made kind) in let event : Event = record { core = c; kind = kind } in
+      record {
+        made = record {
+          two = two_end run e l.made.two small;
+          can = subst (CanRun first_machine) (sym (events_append run (e ∷ [])))
+              (can_end first_machine (events_of run) event l.made.can
+              (subst (λ n. Allows n c kind) (sym l.there) allowed));
+          turns = turns_end 0 run e l.made.turns (λ needs. l.turn_there ∙ need needs);
+        };
+        there = ap (after_all first_machine) (events_append run (e ∷ []))
+            ∙ (reached_end first_machine (events_of run) event
+            ∙ ap (λ n. changed n c kind) l.there);
+        turn_there = turn_end 0 run e ∙ l.turn_there;
+      }
+
+  -- it leads on by the turn that is taken or given back
+  pub leads_turn : (c : ℕ) (act : Act) → event_of c act [] ≡ [] → c < 2 → MayAct turn c act
+      → Leads (run ++ entry c act ∷ []) m (turn_by turn c act)
+  leads_turn c act none small may =
+      let e = entry c act in
+      let same : events_of (run ++ e ∷ []) ≡ events_of run =
+      events_append run (e ∷ [])
+      ∙ (ap (λ x. events_of run ++ x) none ∙ append-nil (events_of run)) in record {
+        made = record {
+          two = two_end run e l.made.two small;
+          can = subst (CanRun first_machine) (sym same) l.made.can;
+          turns = turns_end 0 run e l.made.turns
+              (subst (λ t. MayAct t c act) (sym l.turn_there) may);
+        };
+        there = ap (after_all first_machine) same ∙ l.there;
+        turn_there = turn_end 0 run e ∙ ap (λ t. turn_by t c act) l.turn_there;
+      }
+
+-- a run leads on by a turn given back, and by the event of that turn
+pub leads_handed : (run : List Entry) (m n : Machine) (turn c : ℕ) (kind : Option Kind)
+    → Leads run m turn → c < 2 → turn ≡ c + 1 → Steps m c kind n
+    → Leads (run ++ handed c kind) n 0
+leads_handed run m n turn c None l small has step =
+    subst (λ x. Leads (run ++ entry c Gave ∷ []) x 0) (sym step)
+    (leads_turn run m turn l c Gave refl small has)
+leads_handed run m n turn c (Some kind) l small has step =
+    subst (λ (z : List Entry × Machine). Leads z.0 z.1 0)
+    (λ k. (append_assoc run (entry c (Made kind) ∷ []) (entry c Gave ∷ []) k, sym step.1 k))
+    (leads_turn (run ++ entry c (Made kind) ∷ []) (changed m c kind) turn
+    (leads_made run m turn l c kind small step.0 (λ _. has)) c Gave refl small has)
+
+-- a story goes on by entries of a core, which has seen all of it then
+pub grows : (m n : Machine) (turn turn' c o : ℕ) (mine theirs own : List Entry)
+    (s : Story m turn c o mine theirs) → done_by o own ≡ [] → Leads (s.run ++ own) n turn'
+    → Story n turn' c o (s.run ++ own) theirs
+grows m n turn turn' c o mine theirs own s none l = record {
+  run = s.run ++ own;
+  leads = l;
+  saw = record { later = []; splits = sym (append-nil (s.run ++ own)); none_own = refl };
+  saw' = record {
+    later = s.saw'.later ++ own;
+    splits = ap (λ r. r ++ own) s.saw'.splits ∙ append_assoc theirs s.saw'.later own;
+    none_own = own_both o s.saw'.later own [] [] s.saw'.none_own none;
+  };
+}
+
+-- a story told by the other core
+pub told_by_other : (m : Machine) (turn c o : ℕ) (mine theirs : List Entry)
+    → Story m turn c o mine theirs → Story m turn o c theirs mine
+told_by_other m turn c o mine theirs s =
+    record { run = s.run; leads = s.leads; saw = s.saw'; saw' = s.saw }
+
+module _ {B D : Type 0} where
+  -- a seat went on by these entries of its core, and knows what is so where they lead
+  pub went : (m n : Machine) (turn turn' c o : ℕ) (v v' : View B D) (theirs own : List Entry)
+      (s : Story m turn c o v.seen theirs) → v.core ≡ c → v'.seen ≡ s.run ++ own
+      → Leads (s.run ++ own) n turn' → Agrees v' n turn' → Went own v v'
+  went m n turn turn' c o v v' theirs own s core seen l agrees = record {
+    between = s.saw.later;
+    none_own = subst (λ x. done_by x s.saw.later ≡ []) (sym core) s.saw.none_own;
+    is = seen ∙ ap (λ r. r ++ own) s.saw.splits;
+    made = subst CanBeMade (sym seen) l.made;
+    agrees = subst (λ (z : Machine × ℕ). Agrees v' z.0 z.1)
+        (λ k. (
+          sym (ap machine_at seen ∙ l.there) k,
+          sym (ap turn_at seen ∙ l.turn_there) k,
+        )) agrees;
+  }
+
+  -- an owner never finds the lock another's
+  pub owner_has_lock : (v v' : View B D) (r : ℕ) → v'.core < 2 → v'.phase ≡ Owning
+      → r ≢ v'.core + 1 → Looks 0 r v v' → ⊥
+  owner_has_lock v v' r small owns other_one (w, word) =
+      let safe = safe_for (machine_at v'.seen) v'.core small (run_safe v'.seen w.made) in
+      other_one (sym word ∙ safe.lock_fits.owner.1 (inl (w.agrees.phase ∙ owns)))
+
+  -- a quiet core never finds the other gate another than it knows
+  pub quiet_knows_gate : (v v' : View B D) (i r : ℕ) → v'.core < 2 → v'.core + i ≡ 3
+      → v'.phase ≡ Quiet → r ≢ gate_word (held_gate v'.held) → Looks i r v v' → ⊥
+  quiet_knows_gate v v' i r small place quiet other_one (w, word) =
+      other_one (sym word ∙ (there v'.core i small place (machine_at v'.seen) (turn_at v'.seen)
+      ∙ ap gate_word (w.agrees.held quiet)))
+    where
+      there : (c i : ℕ) → c < 2 → c + i ≡ 3 → (m : Machine) (t : ℕ)
+          → word_of m t i ≡ gate_word (gate_of m (other c))
+      there zero i small place m t = let e : i ≡ 3 = omega arith in
+          subst (λ i. word_of m t i ≡ gate_word (gate_of m 1)) (sym e) refl
+      there (suc zero) i small place m t = let e : i ≡ 2 = omega arith in
+          subst (λ i. word_of m t i ≡ gate_word (gate_of m 0)) (sym e) refl
+      there (suc (suc c)) i small place m t = absurd (omega arith)
