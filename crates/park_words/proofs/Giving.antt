@@ -1,5 +1,5 @@
 -- What a crate above needs to give the value back: from how its own calls go on to what may be given.
-use Rattle.std.proofs.Common.{◌≡◌, ℕ, zero, suc, ◌∙◌, refl, List, ◌++◌, Option, Some, None}
+use Rattle.std.proofs.Common.{◌≡◌, ℕ, zero, suc, ◌∙◌, subst, refl, List, ◌++◌, Option, Some, None}
 use Rattle.core_state.specs.declared.registers.Record.{Record}
 use Rattle.core_state.specs.Sharing.{GoesOn}
 use Rattle.duo_machine.specs.Machine.{other}
@@ -20,18 +20,18 @@ goes stands room x y items (Some b) zero mine theirs on fits before =
 goes stands room x y items (Some b) (suc c) mine theirs on fits before =
     on b mine theirs before (fits b refl)
 
--- a value that is known, with one event done to it and what went on, may be given back
+-- a value that is known, with one event done to it and what went on for the seat's core, may be given back
 pub gives : {S B D : Type 0} (records : S → ℕ → Record) (runs : S → Option ℕ)
     (stands : S → B → List D → List D → Type 0) (room : B → ℕ → List D → Type 0)
-    (x y : S) (v : View B D) (work : Work D) → Known records runs stands x v
+    (x y : S) (v : View B D) (work : Work D) (c : ℕ) → c ≡ v.core → Known records runs stands x v
     → records y (other v.core) ≡ records x (other v.core)
     → Does work.event v (records y v.core) (runs y)
-    → GoesOn stands room x y v.core work.items
+    → GoesOn stands room x y c work.items
     → ((b : B) → v.base ≡ Some b → room b v.core (v.share ++ work.items))
     → Gives records runs stands v y work
-gives records runs stands room x y v work known beside does on fits = record {
+gives records runs stands room x y v work c core known beside does on fits = record {
   other_is = beside ∙ known.other_is;
   does = does;
-  stands_by = goes stands room x y work.items v.base v.core v.share v.other_share on fits
-      known.stands_by;
+  stands_by = goes stands room x y work.items v.base v.core v.share v.other_share
+      (subst (λ n. GoesOn stands room x y n work.items) core on) fits known.stands_by;
 }
