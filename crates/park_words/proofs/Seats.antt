@@ -24,7 +24,7 @@ use Rattle.park_words.specs.Rule.{TurnIs, AtHome, Pairing, Start, Pair, Joined, 
 use Rattle.park_words.specs.Told.{IsOpening, IsLast}
 use Rattle.park_words.proofs.TwoSeats as two
 use Rattle.park_words.proofs.MachineSteps.{machine_by, Apart, by_two, sum_one, below_two}
-use Rattle.park_words.proofs.Stories.{story_safe, stories_are_safe, told_by_other}
+use Rattle.park_words.proofs.Stories.{story_safe, stories_are_safe, last_seen, told_by_other}
 use Rattle.park_words.proofs.Sides.{row, back}
 use Rattle.park_words.proofs.TurnSteps.{other_is}
 
@@ -85,8 +85,10 @@ ran_to_rest v w at_most s =
     let ends = at_the_end v.core small v.registers w.registers in record {
       story = s;
       safe = safe;
-      own = own_at_end s.run _ v.core v.registers small s.leads.there ends.0 safe;
-      other_own = own_at_end s.run _ (other v.core) w.registers beside s.leads.there ends.1 safe;
+      own = own_at_end s.run _ v.core v.registers small s.leads.there ends.0 safe
+          ∙ last_seen s.run v.core v.seen reset s.saw;
+      other_own = own_at_end s.run _ (other v.core) w.registers beside s.leads.there ends.1 safe
+          ∙ last_seen s.run (other v.core) w.seen reset s.saw';
     }
   where
     below : (c : ℕ) → c < 2 → other c < 2

@@ -1,6 +1,7 @@
 -- Runs of both cores' steps: a run with more at its end, safety, and what a step adds to a story.
 use Rattle.std.proofs.Common.{◌≡◌, ◌≢◌, ◌==◌, ℕ, zero, suc, ◌+◌, ◌<◌, ◌++◌, ◌∙◌, ap, subst, sym, refl, inl, Bool, true, false, List, [], ◌∷◌, Option, Some, None, ne_eqb, eq-eqb, append-nil, append_assoc, arith}
 use Rattle.std.specs.Prelude.{if◌then◌else◌}
+use Rattle.core_state.specs.declared.registers.Regs.{Regs}
 use Rattle.core_state.specs.Registers.{starting}
 use Rattle.duo_machine.specs.declared.machine.Gate.TheVariants.{Rest as AtRest}
 use Rattle.duo_machine.specs.declared.machine.Phase.TheVariants.{Resting, Owning, Quiet}
@@ -10,7 +11,7 @@ use Rattle.duo_machine.specs.declared.events.Event.{Event}
 use Rattle.duo_machine.specs.Machine.{other, gate_of, first_machine}
 use Rattle.duo_machine.specs.Table.{Allows, changed, CanHappen, after}
 use Rattle.duo_machine.specs.Safe.{SafeAt, SafeFor, Safe}
-use Rattle.duo_machine.specs.Runs.{AreOfTwoCores, CanRun, after_all}
+use Rattle.duo_machine.specs.Runs.{AreOfTwoCores, CanRun, after_all, set_by, last_set}
 use Rattle.duo_machine.proofs.RunLemmas.{run_keeps_safe, safe_run}
 use Rattle.park_words.specs.declared.view.Act.{Act}
 use Rattle.park_words.specs.declared.view.Act.TheVariants.{Made, Took, Gave}
@@ -122,6 +123,41 @@ own_append c (e ∷ a) b = choose (e.core == c) (own_append c a b)
 pub own_both : (c : ℕ) (a b x y : List Entry) → done_by c a ≡ x → done_by c b ≡ y
     → done_by c (a ++ b) ≡ x ++ y
 own_both c a b x y e f = own_append c a b ∙ (λ k. e k ++ f k)
+
+-- entries of others leave the registers of a core's last Set
+last_append : (c : ℕ) (a b : List Event) (r : Regs)
+    → last_set c (a ++ b) r ≡ last_set c b (last_set c a r)
+last_append c [] b r = refl
+last_append c (e ∷ a) b r =
+    last_append c a b (if e.core == c then set_by e.kind r else r)
+
+last_none : (c : ℕ) (es : List Entry) (r : Regs) → done_by c es ≡ []
+    → last_set c (events_of es) r ≡ r
+last_none c [] r none = refl
+last_none c (e ∷ es) r none =
+    by_core (e.core == c) refl none (λ rest. last_none c es r rest)
+  where
+    by_act : (act : Act) → (e.core == c) ≡ false → last_set c (events_of es) r ≡ r
+        → last_set c (event_of e.core act (events_of es)) r ≡ r
+    by_act (Made kind) apart rest =
+        ap (λ b. last_set c (events_of es) (if b then set_by kind r else r)) apart ∙ rest
+    by_act Took apart rest = rest
+    by_act Gave apart rest = rest
+
+    by_core : (t : Bool) → (e.core == c) ≡ t
+        → (if t then e ∷ done_by c es else done_by c es) ≡ []
+        → (done_by c es ≡ [] → last_set c (events_of es) r ≡ r)
+        → last_set c (event_of e.core e.act (events_of es)) r ≡ r
+    by_core true is own rest = absurd (cc own)
+    by_core false is own rest = by_act e.act is (rest own)
+
+pub last_seen : (run : List Entry) (c : ℕ) (seen : List Entry) (r : Regs) → Saw run c seen
+    → last_set c (events_of run) r ≡ last_set c (events_of seen) r
+last_seen run c seen r saw =
+    ap (λ x. last_set c (events_of x) r) saw.splits
+    ∙ (ap (λ x. last_set c x r) (events_append seen saw.later)
+    ∙ (last_append c (events_of seen) (events_of saw.later) r
+    ∙ last_none c saw.later (last_set c (events_of seen) r) saw.none_own))
 
 -- an entry of a core is none of another one's
 pub none_own : (c o : ℕ) (act : Act) (es : List Entry) → c ≢ o
@@ -255,3 +291,35 @@ module _ {B D : Type 0} where
       there (suc zero) i small place m t = let e : i ≡ 2 = omega arith in
           subst (λ i. word_of m t i ≡ gate_word (gate_of m 0)) (sym e) refl
       there (suc (suc c)) i small place m t = absurd (omega arith)
+
+  -- any number of steps: one step is a walk, and a walk goes on by a step
+  pub ran : (own : List Entry) (v w : View B D) → w.core ≡ v.core → done_by v.core own ≡ own
+      → Went own v w → Ran own v w
+  ran own v w core is h = record {
+    core = core;
+    later = h.between ++ own;
+    is = h.is ∙ append_assoc v.seen h.between own;
+    own_is = own_both v.core h.between own [] own h.none_own is;
+  }
+
+  pub ran_then : (own more : List Entry) (u v w : View B D) → Ran own u v → Ran more v w
+      → Ran (own ++ more) u w
+  ran_then own more u v w a b = record {
+    core = b.core ∙ a.core;
+    later = a.later ++ b.later;
+    is = b.is ∙ (ap (λ s. s ++ b.later) a.is ∙ append_assoc u.seen a.later b.later);
+    own_is = own_both u.core a.later b.later own more a.own_is
+        (subst (λ c. done_by c b.later ≡ more) a.core b.own_is);
+  }
+
+  -- a walk of which nothing is the core's own goes on by a look
+  pub ran_looks : (u v w : View B D) → w.core ≡ v.core → Ran [] u v → Went [] v w → Ran [] u w
+  ran_looks u v w core a h = ran_then [] [] u v w a (ran [] v w core refl h)
+
+  -- it goes on by an event of the core
+  pub ran_made : (kind : Kind) (u v w : View B D) → w.core ≡ v.core → Ran [] u v
+      → Went (entry v.core (Made kind) ∷ []) v w → Ran (entry u.core (Made kind) ∷ []) u w
+  ran_made kind u v w core a h =
+      subst (λ c. Ran (entry c (Made kind) ∷ []) u w) a.core
+      (ran_then [] (entry v.core (Made kind) ∷ []) u v w a
+      (ran (entry v.core (Made kind) ∷ []) v w core (mine_own v.core (Made kind) []) h))

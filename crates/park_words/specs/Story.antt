@@ -192,6 +192,6 @@ module _ {B D : Type 0} where
     pub story :
         Story (rest_by v.core v.registers w.registers) 0 v.core (other v.core) v.seen w.seen
     pub safe : IsSafeRun first_machine (events_of story.run)
-    pub own : own_registers v.registers ≡ last_set v.core (events_of story.run) reset
+    pub own : own_registers v.registers ≡ last_set v.core (events_of v.seen) reset
     pub other_own :
-        own_registers w.registers ≡ last_set (other v.core) (events_of story.run) reset
+        own_registers w.registers ≡ last_set (other v.core) (events_of w.seen) reset
