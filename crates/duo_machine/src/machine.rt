@@ -77,18 +77,21 @@ pub struct Machine {
 }
 
 impl Machine {
+    /// The same machine with another lock.
     pub(crate) fn with_lock(&self, lock: u8) -> Machine
         ensures { result ≡ record self.now { lock = lock } }
     {
         Machine { lock, ..*self }
     }
 
+    /// The same machine with another running step.
     pub(crate) fn with_running(&self, running: Option<u8>) -> Machine
         ensures { result ≡ record self.now { running = running } }
     {
         Machine { running, ..*self }
     }
 
+    /// The same machine with another gate of a core.
     pub(crate) fn with_gate(&self, core: usize, gate: Gate) -> Machine
         requires { core < 2 }
         ensures { result ≡ with_gate core gate self.now }
@@ -98,6 +101,7 @@ impl Machine {
         next
     }
 
+    /// The same machine with another phase of a core.
     pub(crate) fn with_phase(&self, core: usize, phase: Phase) -> Machine
         requires { core < 2 }
         ensures { result ≡ with_phase core phase self.now }
@@ -107,6 +111,7 @@ impl Machine {
         next
     }
 
+    /// The same machine with another record of a core.
     pub(crate) fn with_record(&self, core: usize, registers: Record) -> Machine
         requires { core < 2 }
         ensures { result ≡ with_record core registers self.now }

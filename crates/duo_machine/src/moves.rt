@@ -44,6 +44,7 @@ pub fn every_run_is_safe()
         Safe m → AreOfTwoCores events → CanRun m events → IsSafeRun m events }
 {}
 
+/// Whether the guard of the event holds.
 fn allows(m: &Machine, e: &Event) -> bool
     requires { e.now.core < 2 }
     ensures { IsTrue result ↔ CanHappen m.now e.now }
@@ -73,6 +74,7 @@ fn allows(m: &Machine, e: &Event) -> bool
     }
 }
 
+/// Whether the mask has the bit of the space.
 fn serves(mask: u8, space: Space) -> bool
     ensures { IsTrue result ↔ IsBitSet mask (bit_of space) }
 {
@@ -82,6 +84,7 @@ fn serves(mask: u8, space: Space) -> bool
     }
 }
 
+/// The machine after an event whose guard holds.
 fn changed(m: &Machine, e: &Event) -> Machine
     requires core { e.now.core < 2 }
     requires can { CanHappen m.now e.now }

@@ -12,7 +12,8 @@ use Rattle.duo_machine.specs.Machine.{other, gate_of, first_machine}
 use Rattle.duo_machine.specs.Table.{Allows, changed, CanHappen, after}
 use Rattle.duo_machine.specs.Safe.{SafeAt, SafeFor, Safe}
 use Rattle.duo_machine.specs.Runs.{AreOfTwoCores, CanRun, after_all, set_by, last_set}
-use Rattle.duo_machine.proofs.RunLemmas.{run_keeps_safe, safe_run}
+use Rattle.duo_machine.proofs.StepKeeps.{first_safe}
+use Rattle.duo_machine.proofs.RunLemmas.{last_append, run_keeps_safe, safe_run}
 use Rattle.park_words.specs.declared.view.Act.{Act}
 use Rattle.park_words.specs.declared.view.Act.TheVariants.{Made, Took, Gave}
 use Rattle.park_words.specs.declared.view.Entry.{Entry}
@@ -20,24 +21,6 @@ use Rattle.park_words.specs.declared.view.View.{View}
 use Rattle.park_words.specs.Views.{gate_word, held_gate}
 use Rattle.park_words.specs.Story.{entry, done_by, AreOfBothCores, event_of, events_of, turn_by, turn_after, NeedsTurn, MayAct, KeepTurns, machine_at, turn_at, word_of, word_at, CanBeMade, Leads, Saw, Story, StoriesAreSafe, handed, Agrees, Went, Looks, Ran}
 use Rattle.park_words.proofs.MachineSteps.{Steps}
-
--- a core at rest as at the start, beside another one
-at_rest : (c o : ℕ) → c + o ≡ 1 → SafeAt c 0 AtRest Resting Resting starting None
-at_rest c o apart = record {
-  lock_fits = grind arith;
-  gate_fits = grind arith;
-  gate_has_reason = grind arith;
-  step_fits = grind arith;
-  registers_fit = grind arith;
-}
-
--- the first machine is safe
-pub first_safe : Safe first_machine
-first_safe = record {
-  two_cores = record { gates = refl; phases = refl; records = refl };
-  zero_safe = at_rest 0 1 refl;
-  one_safe = at_rest 1 0 refl;
-}
 
 -- entries of both cores have events of both cores
 events_two : (es : List Entry) → AreOfBothCores es → AreOfTwoCores (events_of es)
@@ -125,12 +108,6 @@ pub own_both : (c : ℕ) (a b x y : List Entry) → done_by c a ≡ x → done_b
 own_both c a b x y e f = own_append c a b ∙ (λ k. e k ++ f k)
 
 -- entries of others leave the registers of a core's last Set
-last_append : (c : ℕ) (a b : List Event) (r : Regs)
-    → last_set c (a ++ b) r ≡ last_set c b (last_set c a r)
-last_append c [] b r = refl
-last_append c (e ∷ a) b r =
-    last_append c a b (if e.core == c then set_by e.kind r else r)
-
 last_none : (c : ℕ) (es : List Entry) (r : Regs) → done_by c es ≡ []
     → last_set c (events_of es) r ≡ r
 last_none c [] r none = refl
