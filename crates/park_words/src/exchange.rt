@@ -46,10 +46,10 @@ impl<V: Records> Words<V> {
         requires word { word < 4 }
         requires event { (phase ≡ E.phase) × (held ≡ E.held) }
         requires may { MayExchange V.records V.runs V.stands E.kind E.phase E.held word awaited next seat.old.view }
-        ensures moved { OnOk result (seat.new ≡ seat_moved seat.old phase held seat.new.view.seen) }
+        ensures ok { OnOk result (seat.new ≡ seat_moved seat.old phase held seat.new.view.seen) }
         ensures event { OnOk result (Makes E.kind seat.old seat.new) }
         ensures kept { OnErr result (seat.new ≡ seat_saw seat.old seat.new.view.seen) }
-        ensures seen { IfErr result (λ e. SawWord word awaited e.word seat.old seat.new) }
+        ensures cause { IfErr result (λ e. SawWord word awaited e.word seat.old seat.new) }
     {
         let found = self
             .table
@@ -77,10 +77,10 @@ impl<V: Records> Words<V> {
         requires core { core < 2 }
         requires event { (phase ≡ E.phase) × (held ≡ E.held) }
         requires may { MayPass V.records V.runs V.stands E.kind E.phase E.held core from to seat.old }
-        ensures moved { OnOk result (seat.new ≡ seat_moved seat.old phase held seat.new.view.seen) }
+        ensures ok { OnOk result (seat.new ≡ seat_moved seat.old phase held seat.new.view.seen) }
         ensures event { OnOk result (Makes E.kind seat.old seat.new) }
         ensures kept { OnErr result (seat.new ≡ seat_saw seat.old seat.new.view.seen) }
-        ensures seen { IfErr result (λ e. SawGate core from e.word seat.old seat.new) }
+        ensures cause { IfErr result (λ e. SawGate core from e.word seat.old seat.new) }
     {
         let word = gate_place(core);
         let awaited = gate_number(from);

@@ -16,10 +16,10 @@ impl<V: Records> Words<V> {
     pub fn take_lock(&self, seat: &mut CoreSeat<V>) -> Result<(), Seen>
         requires table { seat.old.table ≡ self.now }
         requires running { seat.old.view.phase ≡ Running }
-        ensures owning { OnOk result (seat.new ≡ in_phase seat.old Owning seat.new.view.seen) }
+        ensures ok { OnOk result (seat.new ≡ in_phase seat.old Owning seat.new.view.seen) }
         ensures event { OnOk result (Makes Take seat.old seat.new) }
         ensures kept { OnErr result (seat.new ≡ seat_saw seat.old seat.new.view.seen) }
-        ensures seen { IfErr result (λ e. SawLock 0 e.word seat.old seat.new) }
+        ensures cause { IfErr result (λ e. SawLock 0 e.word seat.old seat.new) }
     {
         let mine = u64::from(seat.core) + 1;
         self.exchange::<TakeLock>(seat, LOCK, NOBODY, mine, Phase::Owning, false)
@@ -30,7 +30,7 @@ impl<V: Records> Words<V> {
         requires table { seat.old.table ≡ self.now }
         requires owning { seat.old.view.phase ≡ Owning }
         requires unsaved { IsNone seat.old.view.registers.saved }
-        ensures running { seat.new ≡ in_phase seat.old Running seat.new.view.seen }
+        ensures exact { seat.new ≡ in_phase seat.old Running seat.new.view.seen }
         ensures event { Makes Give seat.old seat.new }
     {
         let mine = u64::from(seat.core) + 1;

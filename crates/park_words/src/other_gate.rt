@@ -34,10 +34,10 @@ impl<V: Records> Words<V> {
         requires table { seat.old.table ≡ self.now }
         requires owning { seat.old.view.phase ≡ Owning }
         requires saved { IsSome seat.old.view.registers.saved }
-        ensures quiet { OnOk result (seat.new ≡ in_phase_holding seat.old Quiet seat.new.view.seen) }
+        ensures ok { OnOk result (seat.new ≡ in_phase_holding seat.old Quiet seat.new.view.seen) }
         ensures event { OnOk result (Makes Hold seat.old seat.new) }
         ensures kept { OnErr result (seat.new ≡ seat_saw seat.old seat.new.view.seen) }
-        ensures seen { IfErr result (λ e. SawOther Rest e.word seat.old seat.new) }
+        ensures cause { IfErr result (λ e. SawOther Rest e.word seat.old seat.new) }
     {
         let beside = 1 - seat.core;
         self.exchange_gate::<HoldOther>(seat, beside, Gate::Rest, Gate::Held, Phase::Quiet, true)
@@ -48,10 +48,10 @@ impl<V: Records> Words<V> {
         requires table { seat.old.table ≡ self.now }
         requires owning { seat.old.view.phase ≡ Owning }
         requires saved { IsSome seat.old.view.registers.saved }
-        ensures asking { OnOk result (seat.new ≡ in_phase seat.old Asking seat.new.view.seen) }
+        ensures ok { OnOk result (seat.new ≡ in_phase seat.old Asking seat.new.view.seen) }
         ensures event { OnOk result (Makes Ask seat.old seat.new) }
         ensures kept { OnErr result (seat.new ≡ seat_saw seat.old seat.new.view.seen) }
-        ensures seen { IfErr result (λ e. SawOther Run e.word seat.old seat.new) }
+        ensures cause { IfErr result (λ e. SawOther Run e.word seat.old seat.new) }
     {
         let beside = 1 - seat.core;
         self.exchange_gate::<AskOther>(seat, beside, Gate::Run, Gate::Asked, Phase::Asking, false)
@@ -61,10 +61,10 @@ impl<V: Records> Words<V> {
     pub fn look(&self, seat: &mut CoreSeat<V>) -> Result<(), Seen>
         requires table { seat.old.table ≡ self.now }
         requires asking { seat.old.view.phase ≡ Asking }
-        ensures quiet { OnOk result (seat.new ≡ in_phase seat.old Quiet seat.new.view.seen) }
+        ensures ok { OnOk result (seat.new ≡ in_phase seat.old Quiet seat.new.view.seen) }
         ensures event { OnOk result (Makes See seat.old seat.new) }
         ensures kept { OnErr result (seat.new ≡ seat_saw seat.old seat.new.view.seen) }
-        ensures seen { IfErr result (λ e. SawOther Parked e.word seat.old seat.new) }
+        ensures cause { IfErr result (λ e. SawOther Parked e.word seat.old seat.new) }
     {
         let word = gate_place(1 - seat.core);
         let found = self.table.shared.load::<Look>(&mut seat.seat, word);
@@ -81,7 +81,7 @@ impl<V: Records> Words<V> {
         requires table { seat.old.table ≡ self.now }
         requires quiet { seat.old.view.phase ≡ Quiet }
         requires no_step { seat.old.view.stepping ≡ false }
-        ensures owning { seat.new ≡ in_phase seat.old Owning seat.new.view.seen }
+        ensures exact { seat.new ≡ in_phase seat.old Owning seat.new.view.seen }
         ensures event { Makes End seat.old seat.new }
     {
         let beside = 1 - seat.core;

@@ -18,10 +18,10 @@ impl<V: Records> Words<V> {
     pub fn start(&self, seat: &mut CoreSeat<V>) -> Result<(), Seen>
         requires table { seat.old.table ≡ self.now }
         requires resting { seat.old.view.phase ≡ Resting }
-        ensures running { OnOk result (seat.new ≡ in_phase seat.old Running seat.new.view.seen) }
+        ensures ok { OnOk result (seat.new ≡ in_phase seat.old Running seat.new.view.seen) }
         ensures event { OnOk result (Makes Start seat.old seat.new) }
         ensures kept { OnErr result (seat.new ≡ seat_saw seat.old seat.new.view.seen) }
-        ensures seen { IfErr result (λ e. SawOwn AtRest e.word seat.old seat.new) }
+        ensures cause { IfErr result (λ e. SawOwn AtRest e.word seat.old seat.new) }
     {
         let core = seat.core;
         self.exchange_gate::<StartCore>(seat, core, Gate::Rest, Gate::Run, Phase::Running, false)
@@ -32,10 +32,10 @@ impl<V: Records> Words<V> {
         requires table { seat.old.table ≡ self.now }
         requires running { seat.old.view.phase ≡ Running }
         requires saved { IsSome seat.old.view.registers.saved }
-        ensures resting { OnOk result (seat.new ≡ in_phase seat.old Resting seat.new.view.seen) }
+        ensures ok { OnOk result (seat.new ≡ in_phase seat.old Resting seat.new.view.seen) }
         ensures event { OnOk result (Makes Rest seat.old seat.new) }
         ensures kept { OnErr result (seat.new ≡ seat_saw seat.old seat.new.view.seen) }
-        ensures seen { IfErr result (λ e. SawOwn Run e.word seat.old seat.new) }
+        ensures cause { IfErr result (λ e. SawOwn Run e.word seat.old seat.new) }
     {
         let core = seat.core;
         self.exchange_gate::<RestCore>(seat, core, Gate::Run, Gate::Rest, Phase::Resting, false)
@@ -46,10 +46,10 @@ impl<V: Records> Words<V> {
         requires table { seat.old.table ≡ self.now }
         requires running { seat.old.view.phase ≡ Running }
         requires saved { IsSome seat.old.view.registers.saved }
-        ensures parked { OnOk result (seat.new ≡ in_phase seat.old Parked seat.new.view.seen) }
+        ensures ok { OnOk result (seat.new ≡ in_phase seat.old Parked seat.new.view.seen) }
         ensures event { OnOk result (Makes Park seat.old seat.new) }
         ensures kept { OnErr result (seat.new ≡ seat_saw seat.old seat.new.view.seen) }
-        ensures seen { IfErr result (λ e. SawOwn Asked e.word seat.old seat.new) }
+        ensures cause { IfErr result (λ e. SawOwn Asked e.word seat.old seat.new) }
     {
         let core = seat.core;
         self.exchange_gate::<ParkCore>(seat, core, Gate::Asked, Gate::Parked, Phase::Parked, false)
@@ -59,10 +59,10 @@ impl<V: Records> Words<V> {
     pub fn leave(&self, seat: &mut CoreSeat<V>) -> Result<(), Seen>
         requires table { seat.old.table ≡ self.now }
         requires parked { seat.old.view.phase ≡ Parked }
-        ensures running { OnOk result (seat.new ≡ in_phase seat.old Running seat.new.view.seen) }
+        ensures ok { OnOk result (seat.new ≡ in_phase seat.old Running seat.new.view.seen) }
         ensures event { OnOk result (Makes Leave seat.old seat.new) }
         ensures kept { OnErr result (seat.new ≡ seat_saw seat.old seat.new.view.seen) }
-        ensures seen { IfErr result (λ e. SawOwn Freed e.word seat.old seat.new) }
+        ensures cause { IfErr result (λ e. SawOwn Freed e.word seat.old seat.new) }
     {
         let core = seat.core;
         self.exchange_gate::<LeaveGate>(seat, core, Gate::Freed, Gate::Run, Phase::Running, false)
@@ -72,7 +72,7 @@ impl<V: Records> Words<V> {
     pub fn asked(&self, seat: &mut CoreSeat<V>) -> bool
         requires { seat.old.table ≡ self.now }
         ensures kept { seat.new ≡ seat_saw seat.old seat.new.view.seen }
-        ensures asked { ReadsAsked result seat.old seat.new }
+        ensures exact { ReadsAsked result seat.old seat.new }
     {
         let word = gate_place(seat.core);
         let found = self.table.shared.load::<Load>(&mut seat.seat, word);

@@ -38,8 +38,8 @@ impl<V: Records> Model for CoreSeat<V> {
 impl<V: Records> CoreSeat<V> {
     /// 0 or 1.
     pub fn core(&self) -> u8
-        ensures core { result ≡ self.now.view.core }
-        ensures small { result < 2 }
+        ensures exact { result ≡ self.now.view.core }
+        ensures within { result < 2 }
     {
         self.core
     }

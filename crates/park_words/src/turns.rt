@@ -14,11 +14,11 @@ impl<V: Records> Words<V> {
     /// did so far and for what the other core did.
     pub fn take_turn(&self, seat: &mut CoreSeat<V>) -> Result<V, Seen>
         requires { seat.old.table ≡ self.now }
-        ensures taken { OnOk result (HasTaken seat.old seat.new) }
+        ensures ok { OnOk result (HasTaken seat.old seat.new) }
         ensures value { IfOk result (λ x. Known V.records V.runs V.stands x seat.new.view) }
-        ensures took { OnOk result (TookTurn seat.old seat.new) }
+        ensures event { OnOk result (TookTurn seat.old seat.new) }
         ensures kept { OnErr result (seat.new ≡ seat_saw seat.old seat.new.view.seen) }
-        ensures seen { IfErr result (λ e. SawTurn e.word seat.old seat.new) }
+        ensures cause { IfErr result (λ e. SawTurn e.word seat.old seat.new) }
     {
         let shared = &self.table.shared;
         let mine = u64::from(seat.core) + 1;
@@ -39,7 +39,7 @@ impl<V: Records> Words<V> {
         requires table { seat.old.table ≡ self.now }
         requires turn { seat.old.view.turn ≡ true }
         requires value { Gives V.records V.runs V.stands seat.old.view value work }
-        ensures given { seat.new ≡ given V.records V.runs seat.old value work.items seat.new.view.seen }
+        ensures exact { seat.new ≡ given V.records V.runs seat.old value work.items seat.new.view.seen }
         ensures event { GaveTurn work seat.old seat.new }
     {
         self.give::<Brand>(seat, value)
@@ -51,7 +51,7 @@ impl<V: Records> Words<V> {
         requires table { seat.old.table ≡ self.now }
         requires turn { seat.old.view.turn ≡ true }
         requires value { Gives V.records V.runs V.stands seat.old.view value work }
-        ensures given { seat.new ≡ given V.records V.runs seat.old value work.items seat.new.view.seen }
+        ensures exact { seat.new ≡ given V.records V.runs seat.old value work.items seat.new.view.seen }
         ensures event { GaveTurn work seat.old seat.new }
     {
         self.give_turn(seat, value)
@@ -62,7 +62,7 @@ impl<V: Records> Words<V> {
         requires table { seat.old.table ≡ self.now }
         requires turn { seat.old.view.turn ≡ true }
         requires value { Gives V.records V.runs V.stands seat.old.view value J.work }
-        ensures given { seat.new ≡ given V.records V.runs seat.old value J.work.items seat.new.view.seen }
+        ensures exact { seat.new ≡ given V.records V.runs seat.old value J.work.items seat.new.view.seen }
         ensures event { GaveTurn J.work seat.old seat.new }
     {
         let shared = &self.table.shared;

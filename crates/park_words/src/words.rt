@@ -90,7 +90,7 @@ impl<V: Records> Words<V> {
         ensures tables { IfOk result (λ r. (r.1.table ≡ r.0) × (r.2.table ≡ r.0)) }
         ensures left { IfOk result (λ r. r.1.view ≡ dealt 0 (Some base)) }
         ensures right { IfOk result (λ r. r.2.view ≡ dealt 1 (Some base)) }
-        ensures back { IfErr result (λ e. e.value ≡ value) }
+        ensures err { IfErr result (λ e. e.value ≡ value) }
     {
         let about = Snapshot::of(&value);
         let mut slots = Vec::new(alloc);

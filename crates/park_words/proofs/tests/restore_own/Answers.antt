@@ -6,8 +6,8 @@ use Rattle.park_words.proofs.tests.restore_own.Goals as goal
 
 pub give_event-requires-clause-value : goal.give_event-requires-clause-value
 give_event-requires-clause-value c =
-    let k = c.in-Ok.ensures.value in let took = c.in-Ok.ensures.taken.1 in let put =
-    c.put_back.ensures in let core = c.core.ensures.core in
+    let k = c.in-Ok.ensures.value in let took = c.in-Ok.ensures.ok.1 in let put =
+    c.put_back.ensures in let core = c.core.ensures.exact in
     let was = c.in-Ok.tally.registers in let is = c.put_back.new.self.registers in record {
       other_is = ap (λ n. slice_index_or is (1 - n) starting) (sym core)
           ∙ (put.other ∙ (ap (λ n. slice_index_or was (1 - n) starting) core ∙ k.other_is));

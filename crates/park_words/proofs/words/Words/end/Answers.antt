@@ -21,7 +21,7 @@ unreachable-requires g c =
     let small = c.seat.invariant.small in let core = c.seat.invariant.core_is in
     let same = ap (λ z. z.view.core) c.seat.view_is in
     let held = sym (ap (λ z. z.view.held) c.seat.view_is) ∙ c.seat.invariant.held_is in
-    let seen = c.in_default.ensures.seen in let kept = c.in_default.ensures.kept in
+    let seen = c.in_default.ensures.cause in let kept = c.in_default.ensures.kept in
     let core_kept = ap (λ s. s.view.core) kept in
     quiet_knows_gate _ _ _ c.in_default.field-0.word
     (omega arith) (omega arith) (ap (λ s. s.view.phase) kept ∙ c.requires.quiet)

@@ -11,7 +11,7 @@ exchange-requires-clause-may g c = let V =
 -- the owner of the lock finds its own number there
 pub unreachable-requires : goal.unreachable-requires
 unreachable-requires g c =
-    let before = c.args.seat.now.view in let seen = c.in_default.ensures.seen in
+    let before = c.args.seat.now.view in let seen = c.in_default.ensures.cause in
     let kept = c.in_default.ensures.kept in
     let same = ap (λ s. s.view.core) kept in
     let mine : before.core + 1 ≡ c.from-mine.result + 1 = search rules in
