@@ -1,12 +1,11 @@
 -- Each event on a word, as the step of the table that makes it.
-use Rattle.std.proofs.Common.{◌≡◌, ◌≢◌, ℕ, zero, suc, ◌+◌, ◌<◌, ◌⊎◌, ◌++◌, ◌∙◌, ap, subst, sym, refl, inl, inr, Bool, true, false, List, [], ◌∷◌, slice_index, slice_set, Option, Some, None, eqb, eq-eqb, ne_eqb, arith, ◌↔◌}
+use Rattle.std.proofs.Common.{◌≡◌, ◌≢◌, ℕ, zero, suc, ◌+◌, ◌++◌, ◌∙◌, ap, subst, sym, refl, inl, inr, Bool, true, false, List, [], ◌∷◌, slice_index, slice_set, Option, Some, None, eqb, eq-eqb, ne_eqb, arith, ◌↔◌}
 use Rattle.std.specs.Prelude.{IsSome, IsNone}
 use mathlib.Core.Logic.{dite}
 use mathlib.Core.Option.{some, none}
 use mathlib.Core.Option as maybe
 use native.Mathlib.Decide.{ℕ_discrete}
 use prog.Atomic.{either}
-use lib.ListN.{get_elem?}
 use Rattle.core_state.specs.declared.registers.Record.{Record}
 use Rattle.atomic_table.specs.Table.{State, Me, step, keeps, Allows}
 use Rattle.duo_machine.specs.declared.machine.Gate.{Gate}
@@ -22,7 +21,7 @@ use Rattle.park_words.specs.declared.view.Entry.{Entry}
 use Rattle.park_words.specs.declared.view.Stage.TheVariants.{One}
 use Rattle.park_words.specs.declared.view.View.{View}
 use Rattle.park_words.specs.Views.{gate_word, held_gate, moved, saw}
-use Rattle.park_words.specs.Story.{entry, done_by, NeedsTurn, word_of, word_at, Leads, Story, Agrees, Went, Looks}
+use Rattle.park_words.specs.Story.{entry, done_by, NeedsTurn, word_of, Leads, Story, Agrees, Went, Looks}
 use Rattle.park_words.specs.Rule.{RunIs, KnowsGate, Pairing, Paired, Ruled}
 use Rattle.park_words.specs.Told.{Tells, TellsExchange, TellsLoad}
 use Rattle.park_words.proofs.MachineSteps.{Steps, machine_by, Apart, by_two, sum_one, below_two, start_step, rest_step, park_step, leave_step, take_step, give_step, ask_step, hold_step, see_step, end_step}

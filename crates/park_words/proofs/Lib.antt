@@ -1,4 +1,3 @@
-pub mod TwoSeats
 pub mod MachineSteps
 pub mod Stories
 pub mod Sides

@@ -15,17 +15,16 @@ use Rattle.duo_machine.specs.Machine.{other, record_of, own_of, first_machine}
 use Rattle.duo_machine.specs.Safe.{SafeAt, Safe}
 use Rattle.duo_machine.specs.Runs.{last_set, IsSafeRun}
 use Rattle.park_words.specs.declared.view.Entry.{Entry}
-use Rattle.park_words.specs.declared.view.Stage.{Stage}
-use Rattle.park_words.specs.declared.view.Stage.TheVariants.{New, One, Both, Spent}
+use Rattle.park_words.specs.declared.view.Stage.TheVariants.{One}
 use Rattle.park_words.specs.declared.view.View.{View}
 use Rattle.park_words.specs.Views.{fresh, dealt, both_of, spent}
 use Rattle.park_words.specs.Story.{events_of, machine_at, rest_by, Story, RanToRest}
 use Rattle.park_words.specs.Rule.{TurnIs, AtHome, Pairing, Start, Pair, Joined, IsOne, IsBoth, Ruled}
 use Rattle.park_words.specs.Told.{IsOpening, IsLast}
-use Rattle.park_words.proofs.TwoSeats as two
+use Rattle.core_state.proofs.TwoSeats as two
 use Rattle.park_words.proofs.MachineSteps.{machine_by, Apart, by_two, sum_one, below_two}
 use Rattle.park_words.proofs.Stories.{story_safe, stories_are_safe, last_seen, told_by_other}
-use Rattle.park_words.proofs.Sides.{row, back}
+use Rattle.park_words.proofs.Sides.{row, fresh_one, spent_one, both_one, fresh_both, spent_both, spent_fresh, back}
 use Rattle.park_words.proofs.TurnSteps.{other_is}
 
 module _ {c o lock : ℕ} {gate gate' : Gate} {registers registers' : Record} {run : Option ℕ}
@@ -96,30 +95,11 @@ ran_to_rest v w at_most s =
     below (suc zero) small = omega arith
     below (suc (suc c)) small = absurd (omega arith)
 
--- no two stages are one
-fresh_one : New ≡ One → ⊥
-fresh_one e = cc e
-
-spent_one : Spent ≡ One → ⊥
-spent_one e = cc e
-
-both_one : (stage : Stage) → stage ≡ Both → stage ≡ One → ⊥
-both_one stage b e = let bad : Both ≡ One = sym b ∙ e in cc bad
-
-fresh_both : New ≡ Both → ⊥
-fresh_both e = cc e
-
-spent_both : Spent ≡ Both → ⊥
-spent_both e = cc e
-
 module _
     {S B D : Type 0}
     (records : S → ℕ → Record) (runs : S → Option ℕ) (stands : S → B → List D → List D → Type 0)
     (key : S)
   where
-    spent_fresh : ◌≡◌ {A = View B D} spent fresh → ⊥
-    spent_fresh e = let bad : Spent ≡ New = ap (λ x. x.stage) e in cc bad
-
     -- two views as they are dealt
     dealt_pair : (base : Option B) (homes : List (maybe.Option (Option S)))
         → homes ≡ some (Some key) ∷ [] → IsOpening records runs stands key base
@@ -154,7 +134,7 @@ module _
     deals id base first =
         two.deals fresh spent (IsOne records runs stands) (IsBoth records runs stands)
         (Start records runs stands key) (Pair records runs stands) (Joined records runs stands)
-        fresh_one spent_one (λ v. both_one v.stage) fresh_both spent_both spent_fresh
+        fresh_one spent_one (λ v. both_one v.stage) fresh_both spent_both (spent_fresh records runs stands)
         id (dealt 0 base) (dealt 1 base) refl refl (λ ws hs start. record {
           lock = 0;
           turn = 0;
@@ -236,7 +216,7 @@ module _
     joins id id' v w one rests rests' free free' =
         two.joins fresh spent (IsOne records runs stands) (IsBoth records runs stands)
         (Start records runs stands key) (Pair records runs stands) (Joined records runs stands)
-        fresh_one spent_one (λ v. both_one v.stage) fresh_both spent_both spent_fresh
+        fresh_one spent_one (λ v. both_one v.stage) fresh_both spent_both (spent_fresh records runs stands)
         id id' v w (both_of v w) one refl
         (λ ws hs p. joined ws hs 0 1 p.lock p.turn p.gate p.gate' p.run v w (inl (refl, refl))
         p.numbers p.pairing p.story rests rests' free free')
@@ -252,7 +232,7 @@ module _
     closes id v w u ws xs y e final there =
         let end = two.closes fresh spent (IsOne records runs stands) (IsBoth records runs stands)
         (Start records runs stands key) (Pair records runs stands) (Joined records runs stands)
-        fresh_one spent_one (λ v. both_one v.stage) fresh_both spent_both spent_fresh
+        fresh_one spent_one (λ v. both_one v.stage) fresh_both spent_both (spent_fresh records runs stands)
         id (both_of v w) ws xs refl
         (subst (λ z. Final (Seen (Ruled records runs stands key) id z) ws xs) e final) in
         let j = end.1 in let h = j.home in (

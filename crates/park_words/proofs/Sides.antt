@@ -11,11 +11,10 @@ use Rattle.duo_machine.specs.Safe.{SafeAt, Safe}
 use Rattle.park_words.specs.declared.view.Stage.{Stage}
 use Rattle.park_words.specs.declared.view.Stage.TheVariants.{New, One, Both, Spent}
 use Rattle.park_words.specs.declared.view.View.{View}
-use Rattle.park_words.specs.TwoSeats.{IsPair, HasTwoSeats}
 use Rattle.park_words.specs.Views.{gate_word, fresh, spent}
 use Rattle.park_words.specs.Story.{machine_of, word_of, Story}
 use Rattle.park_words.specs.Rule.{RunIs, TurnIs, StandsFor, Pairing, Start, Pair, Joined, IsOne, IsBoth, Paired, Ruled}
-use Rattle.park_words.proofs.TwoSeats.{pair_at}
+use Rattle.core_state.proofs.TwoSeats.{pair_at}
 use Rattle.park_words.proofs.MachineSteps.{machine_by, Apart, by_two}
 use Rattle.park_words.proofs.Stories.{story_safe, told_by_other}
 
@@ -92,19 +91,19 @@ run_round : {run : Option ℕ} {c o : ℕ} {a b : _} → RunIs run c o a b → R
 run_round r = record { own = r.other; other = r.own; none = λ a b. r.none b a }
 
 -- no two stages are one
-fresh_one : New ≡ One → ⊥
+pub fresh_one : New ≡ One → ⊥
 fresh_one e = cc e
 
-spent_one : Spent ≡ One → ⊥
+pub spent_one : Spent ≡ One → ⊥
 spent_one e = cc e
 
-both_one : (stage : Stage) → stage ≡ Both → stage ≡ One → ⊥
+pub both_one : (stage : Stage) → stage ≡ Both → stage ≡ One → ⊥
 both_one stage b e = let bad : Both ≡ One = sym b ∙ e in cc bad
 
-fresh_both : New ≡ Both → ⊥
+pub fresh_both : New ≡ Both → ⊥
 fresh_both e = cc e
 
-spent_both : Spent ≡ Both → ⊥
+pub spent_both : Spent ≡ Both → ⊥
 spent_both e = cc e
 
 module _
@@ -114,7 +113,7 @@ module _
     abbrev pub St : Type 0
     St = State (Option S) (View B D)
 
-    spent_fresh : ◌≡◌ {A = View B D} spent fresh → ⊥
+    pub spent_fresh : ◌≡◌ {A = View B D} spent fresh → ⊥
     spent_fresh e = let bad : Spent ≡ New = ap (λ x. x.stage) e in cc bad
 
     abbrev pub Homes : Type 0

@@ -2,15 +2,13 @@
 use Rattle.std.proofs.Common.{◌≡◌, ◌≢◌, ◌==◌, ℕ, zero, suc, ◌+◌, ◌<◌, ◌++◌, ◌∙◌, ap, subst, sym, refl, inl, Bool, true, false, List, [], ◌∷◌, Option, Some, None, ne_eqb, eq-eqb, append-nil, append_assoc, arith}
 use Rattle.std.specs.Prelude.{if◌then◌else◌}
 use Rattle.core_state.specs.declared.registers.Regs.{Regs}
-use Rattle.core_state.specs.Registers.{starting}
-use Rattle.duo_machine.specs.declared.machine.Gate.TheVariants.{Rest as AtRest}
-use Rattle.duo_machine.specs.declared.machine.Phase.TheVariants.{Resting, Owning, Quiet}
+use Rattle.duo_machine.specs.declared.machine.Phase.TheVariants.{Owning, Quiet}
 use Rattle.duo_machine.specs.declared.machine.Machine.{Machine}
 use Rattle.duo_machine.specs.declared.events.Kind.{Kind}
 use Rattle.duo_machine.specs.declared.events.Event.{Event}
 use Rattle.duo_machine.specs.Machine.{other, gate_of, first_machine}
 use Rattle.duo_machine.specs.Table.{Allows, changed, CanHappen, after}
-use Rattle.duo_machine.specs.Safe.{SafeAt, SafeFor, Safe}
+use Rattle.duo_machine.specs.Safe.{SafeFor, Safe}
 use Rattle.duo_machine.specs.Runs.{AreOfTwoCores, CanRun, after_all, set_by, last_set}
 use Rattle.duo_machine.proofs.StepKeeps.{first_safe}
 use Rattle.duo_machine.proofs.RunLemmas.{last_append, run_keeps_safe, safe_run}
@@ -19,7 +17,7 @@ use Rattle.park_words.specs.declared.view.Act.TheVariants.{Made, Took, Gave}
 use Rattle.park_words.specs.declared.view.Entry.{Entry}
 use Rattle.park_words.specs.declared.view.View.{View}
 use Rattle.park_words.specs.Views.{gate_word, held_gate}
-use Rattle.park_words.specs.Story.{entry, done_by, AreOfBothCores, event_of, events_of, turn_by, turn_after, NeedsTurn, MayAct, KeepTurns, machine_at, turn_at, word_of, word_at, CanBeMade, Leads, Saw, Story, StoriesAreSafe, handed, Agrees, Went, Looks, Ran}
+use Rattle.park_words.specs.Story.{entry, done_by, AreOfBothCores, event_of, events_of, turn_by, turn_after, NeedsTurn, MayAct, KeepTurns, machine_at, turn_at, word_of, CanBeMade, Leads, Saw, Story, StoriesAreSafe, handed, Agrees, Went, Looks, Ran}
 use Rattle.park_words.proofs.MachineSteps.{Steps}
 
 -- entries of both cores have events of both cores

@@ -17,7 +17,7 @@ use Rattle.duo_machine.specs.declared.events.Kind.{Kind}
 use Rattle.duo_machine.specs.declared.events.Kind.TheVariants.{Start, Rest, Take, Give, Save, Back, Hold, Ask, Park, See, Begin, Done, End, Leave, Set, Fetch}
 use Rattle.duo_machine.specs.Machine.{other}
 use Rattle.duo_machine.specs.Safe.{SafeAt}
-use Rattle.park_words.specs.declared.view.Act.TheVariants.{Made, Took, Gave}
+use Rattle.park_words.specs.declared.view.Act.TheVariants.{Took}
 use Rattle.park_words.specs.declared.view.Entry.{Entry}
 use Rattle.park_words.specs.declared.view.Stage.TheVariants.{One}
 use Rattle.park_words.specs.declared.view.View.{View}
@@ -27,7 +27,7 @@ use Rattle.park_words.specs.Rule.{RunIs, StandsBy, AtHome, Pairing, Ruled}
 use Rattle.park_words.specs.Told.{Work, Does, IsBeforeQuiet, Known, Gives, TellsTaken, TellsGiven}
 use Rattle.park_words.proofs.MachineSteps.{Steps, machine_by, Apart, sum_one, below_two, save_step, back_step, set_step, fetch_step, begin_step, done_step, no_step}
 use Rattle.park_words.proofs.Stories.{none_own, none_handed, leads_turn, leads_handed}
-use Rattle.park_words.proofs.Sides.{row, with_turn as turn_in, at, Side, side, safe_own, safe_other, turn_is}
+use Rattle.park_words.proofs.Sides.{with_turn as turn_in, at, Side, side, safe_own, safe_other, turn_is}
 use Rattle.park_words.proofs.Exchanges.{hit, miss, two_cores, own_step, not_own_step, lands, sees_run}
 
 -- the other core, where the two are core 0 and core 1
@@ -394,9 +394,10 @@ module _
             cc e in let second : Some x ≡ Some y = ap (λ z. z.1) first in cc second
 
         told : (seen : List Entry) (y : S) → x ≡ y
-            → ◌≡◌ {A = Me (Option S) (View B D)}
-            (without_turn me.0 (records x me.0.core) (runs x) (me.0.share ++ work.items) seen,
-            rest me.1)
+            → ◌≡◌ {A = Me (Option S) (View B D)} (
+              without_turn me.0 (records x me.0.core) (runs x) (me.0.share ++ work.items) seen,
+              rest me.1,
+            )
             (without_turn me.0 (records y me.0.core) (runs y) (me.0.share ++ work.items) seen, [])
         told seen y e = λ k. (
           without_turn me.0 (records (e k) me.0.core) (runs (e k)) (me.0.share ++ work.items) seen,

@@ -1,4 +1,3 @@
-pub mod TwoSeats
 pub mod Views
 pub mod Story
 pub mod Rule

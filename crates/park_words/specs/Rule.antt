@@ -1,5 +1,5 @@
 -- What the four words, the value at home and the views stand for. Core c sees its own gate and view first.
-use Rattle.std.specs.Prelude.{◌≡◌, ℕ, ◌+◌, ◌≤◌, Bool, true, false, ◌⊎◌, ◌↔◌, List, [], ◌∷◌, Option, Some, None}
+use Rattle.std.specs.Prelude.{◌≡◌, ℕ, ◌+◌, ◌≤◌, Bool, true, false, ◌↔◌, List, [], ◌∷◌, Option, Some, None}
 use mathlib.Core.Option.{some}
 use mathlib.Core.Option as maybe
 use Rattle.core_state.specs.declared.registers.Record.{Record}
@@ -14,7 +14,7 @@ use Rattle.duo_machine.specs.Safe.{Safe}
 use Rattle.duo_machine.specs.Runs.{IsSafeRun}
 use Rattle.park_words.specs.declared.view.Stage.TheVariants.{One, Both}
 use Rattle.park_words.specs.declared.view.View.{View}
-use Rattle.park_words.specs.TwoSeats.{IsPair, HasTwoSeats}
+use Rattle.core_state.specs.TwoSeats.{IsPair, HasTwoSeats}
 use Rattle.park_words.specs.Views.{gate_word, held_gate, fresh, spent}
 use Rattle.park_words.specs.Story.{events_of, machine_of, rest_by, Story}
 

@@ -1,5 +1,5 @@
 -- What the calls tell: how the run that a seat has seen went on, and of the value.
-use Rattle.std.specs.Prelude.{◌≡◌, ◌==◌, ◌≢◌, ◌+◌, ◌≤◌, ◌++◌, ℕ, Bool, true, false, ◌⊎◌, ◌↔◌, List, [], ◌∷◌, Option, Some, None, IsSome, IsNone, IsTrue}
+use Rattle.std.specs.Prelude.{◌≡◌, ◌==◌, ◌≢◌, ◌≤◌, ◌++◌, ℕ, Bool, true, false, ◌⊎◌, ◌↔◌, List, [], ◌∷◌, Option, Some, None, IsSome, IsNone, IsTrue}
 use Rattle.std.specs.Int.{IsBitSet}
 use mathlib.Core.Option.{none}
 use Rattle.core_state.specs.declared.registers.Record.{Record}
@@ -19,7 +19,7 @@ use Rattle.park_words.specs.declared.view.Stage.TheVariants.{One}
 use Rattle.park_words.specs.declared.view.Entry.{Entry}
 use Rattle.park_words.specs.declared.view.View.{View}
 use Rattle.park_words.specs.Views.{Seated, gate_word, gate_place, saw, with_turn, without_turn, moved}
-use Rattle.park_words.specs.Story.{entry, word_at, handed, Went, Looks}
+use Rattle.park_words.specs.Story.{entry, handed, Went, Looks}
 use Rattle.park_words.specs.Rule.{Ruled, StandsFor, StandsBy}
 
 -- what a core did while it had the turn: one event of the machine or none, and what it adds to its share
@@ -222,6 +222,8 @@ module _
     TellsGiven work st me r me' =
         (x : S) → me.1 ≡ (0, Some x) ∷ [] →
         (me'
-        ≡ (without_turn me.0 (records x me.0.core) (runs x) (me.0.share ++ work.items) me'.0.seen,
-        []))
+        ≡ (
+          without_turn me.0 (records x me.0.core) (runs x) (me.0.share ++ work.items) me'.0.seen,
+          [],
+        ))
         × Went (handed me.0.core work.event) me.0 me'.0

@@ -34,7 +34,8 @@ impl<V: Records> Words<V> {
         ensures event { Makes Give seat.old seat.new }
     {
         let mine = u64::from(seat.core) + 1;
-        let Ok(()) = self.exchange::<GiveLock>(seat, LOCK, mine, NOBODY, Phase::Running, false) else {
+        let Ok(()) = self.exchange::<GiveLock>(seat, LOCK, mine, NOBODY, Phase::Running, false)
+        else {
             unreachable!()
         };
     }

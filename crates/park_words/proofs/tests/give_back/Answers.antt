@@ -1,4 +1,4 @@
-use Rattle.std.proofs.Common.{[], None, List, subst, sym, append-nil}
+use Rattle.std.proofs.Common.{subst, sym, append-nil}
 use Rattle.park_words.specs.Rule.{StandsBy}
 use Rattle.park_words.proofs.tests.give_back.Goals as goal
 

@@ -1,7 +1,6 @@
-use Rattle.std.proofs.Common.{rules, ◌∙◌, ◌-◌, ap, sym, subst, inr, [], Some, append-nil, slice_index_or}
+use Rattle.std.proofs.Common.{rules, ◌∙◌, ◌-◌, ap, sym, subst, inr, slice_index_or}
 use Rattle.std.specs.Prelude.{IsSome}
 use Rattle.core_state.specs.Registers.{starting, restored}
-use Rattle.duo_machine.specs.declared.events.Kind.TheVariants.{Back}
 use Rattle.park_words.proofs.tests.restore_own.Goals as goal
 
 pub give_event-requires-clause-value : goal.give_event-requires-clause-value

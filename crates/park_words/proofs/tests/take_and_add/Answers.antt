@@ -1,4 +1,4 @@
-use Rattle.std.proofs.Common.{◌≡◌, ◌∙◌, ◌-◌, [], ◌∷◌, None, ap, slice_index_or}
+use Rattle.std.proofs.Common.{◌∙◌, ◌-◌, [], ◌∷◌, None, ap, slice_index_or}
 use Rattle.std.specs.Prelude.{⊤}
 use Rattle.core_state.specs.Registers.{starting}
 use Rattle.park_words.proofs.Giving.{gives}
@@ -11,7 +11,8 @@ give_added-requires-clause-value g c =
     let added = c.add_one-amount.ensures in let amount = c.add_one-amount.result in
     gives _ _ _ (λ b c items. ⊤) c.in-Ok.tally c.add_one-amount.new.self v
     (record { event = None; items = amount ∷ [] }) c.core.result c.core.ensures.exact known
-    (ap (λ r. slice_index_or r (1 - v.core) starting) added.rest.0)
-    (ap (λ r. slice_index_or r v.core starting) added.rest.0 ∙ known.own,
-    added.rest.1 ∙ known.running)
+    (ap (λ r. slice_index_or r (1 - v.core) starting) added.rest.0) (
+      ap (λ r. slice_index_or r v.core starting) added.rest.0 ∙ known.own,
+      added.rest.1 ∙ known.running,
+    )
     added.goes_on (λ b e. tt)

@@ -1,4 +1,4 @@
-use Rattle.std.proofs.Common.{ap, sym, subst, ◌≡◌, ◌+◌, ◌<◌, ◌∙◌, arith}
+use Rattle.std.proofs.Common.{ap, sym, ◌∙◌, arith}
 use Rattle.duo_machine.specs.Machine.{let_go}
 use Rattle.park_words.specs.Views.{gate_word, held_gate}
 use Rattle.park_words.proofs.Stories.{quiet_knows_gate}

@@ -3,7 +3,7 @@ use Rattle.std.proofs.Common.{◌≡◌, ℕ, zero, suc, ◌⊎◌, ap, subst, s
 use mathlib.Core.Option.{Option, some, some-injective, some-ne-none}
 use lib.ListN.{get_elem?}
 use Rattle.atomic_table.specs.Table.{State, Splits, Joins, Final, Seen}
-use Rattle.park_words.specs.TwoSeats.{IsStart, IsPair, IsEnd, HasTwoSeats}
+use Rattle.core_state.specs.TwoSeats.{IsStart, IsPair, IsEnd, HasTwoSeats}
 
 module _ {V : Type 0} where
   -- the one view that a seat finds
@@ -99,9 +99,9 @@ module _
         from s (inl f) at = dealt_at s id f (found_in s id fresh _ f.views at)
         from s (inr (inl p)) at = elim (at_two p.left p.right fresh id
             (found_in s id fresh _ p.views at)) [
-          | inl e ↦ absurd (fresh_one (subst IsOne e.1 p.ones.0))
-          | inr e ↦ absurd (fresh_one (subst IsOne e.1 p.ones.1))
-        ]
+              | inl e ↦ absurd (fresh_one (subst IsOne e.1 p.ones.0))
+              | inr e ↦ absurd (fresh_one (subst IsOne e.1 p.ones.1))
+            ]
         from s (inr (inr j)) at = absurd (by_place j.views)
           where
             joined_is : j.joined ≡ fresh → ⊥
