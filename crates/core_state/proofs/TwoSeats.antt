@@ -1,4 +1,5 @@
--- Two seats at one table: dealt at the start, found while both are out, joined and closed at the end.
+-- Two seats at one table: dealt at the start, found while both are out, joined and closed at the
+-- end.
 use Rattle.std.proofs.Common.{◌≡◌, ℕ, zero, suc, ◌⊎◌, ap, subst, sym, refl, inl, inr, List, [], ◌∷◌, ◌++◌, slice_set}
 use mathlib.Core.Option.{Option, some, some-injective, some-ne-none}
 use lib.ListN.{get_elem?}

@@ -1,4 +1,5 @@
--- Two seats at one table: one view at the start, one a seat while both are out, and at the end one for both beside a spent one.
+-- Two seats at one table: one view at the start, one a seat while both are out, and at the end one
+-- for both beside a spent one.
 use Rattle.std.specs.Prelude.{◌≡◌, ℕ, ◌⊎◌, List, [], ◌∷◌}
 use mathlib.Core.Option.{Option}
 use Rattle.atomic_table.specs.Table.{State}

@@ -47,7 +47,8 @@ module _ {c o lock : ℕ} {gate gate' : Gate} {phase phase' : Phase}
 
     -- a core that is awake saves its registers
     pub save : IsAwake phase → IsNone registers.saved
-        → SafeForBoth c o lock gate gate' phase phase' (saved_and_masked registers) registers' running
+        → SafeForBoth c o lock gate gate' phase phase' (saved_and_masked registers) registers'
+        running
     save at b = (grind arith, theirs)
 
     -- a core that is awake puts its registers back
@@ -97,5 +98,6 @@ module _ {c o lock : ℕ} {gate gate' : Gate} {phase phase' : Phase}
 
     -- a running core sets its registers
     pub set_own : (wanted : Regs) → phase ≡ Running → IsNone registers.saved → wanted.mask ≤ 3
-        → SafeForBoth c o lock gate gate' phase phase' (record registers { regs = wanted }) registers' running
+        → SafeForBoth c o lock gate gate' phase phase' (record registers { regs = wanted })
+        registers' running
     set_own wanted at b h = (grind arith, theirs)

@@ -80,7 +80,8 @@ wanted_own registers wanted none = from registers.saved none
     from None none = refl
     from (Some own) none = absurd (cc)
 
--- the own registers of a core after an event of a core: those that its own Set wrote, or else those before
+-- the own registers of a core after an event of a core: those that its own Set wrote, or else those
+-- before
 abbrev KeepsOwn : Machine → ℕ → Kind → ℕ → Type 0
 KeepsOwn m c kind d =
     own_registers (record_of (changed m c kind) d) ≡

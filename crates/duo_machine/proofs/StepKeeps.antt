@@ -25,7 +25,8 @@ of_two lock gate gate' phase phase' registers registers' running = record {
   running = running;
 }
 
--- what is shown of each machine that has two cores in its lists holds of each that has them by count
+-- what is shown of each machine that has two cores in its lists holds of each that has them by
+-- count
 pub by_two : (P : Machine → Type 0)
     → ((lock : ℕ) (gate gate' : Gate) (phase phase' : Phase) (registers registers' : Record)
     (running : Option ℕ) → P (of_two lock gate gate' phase phase' registers registers' running))
@@ -115,7 +116,8 @@ one_keeps Begin s g = pair_back (begin refl s.one_safe s.zero_safe g.0 g.1)
 one_keeps Done s g = pair_back (done refl s.one_safe s.zero_safe g.0 g.1)
 one_keeps End s g = pair_back (end refl s.one_safe s.zero_safe g.0 g.1 g.2)
 one_keeps Leave s g = pair_back (leave refl s.one_safe s.zero_safe g.0 g.1)
-one_keeps (Set registers) s g = pair_back (set_own refl s.one_safe s.zero_safe registers g.0 g.1 g.2)
+one_keeps (Set registers) s g =
+    pair_back (set_own refl s.one_safe s.zero_safe registers g.0 g.1 g.2)
 one_keeps (Fetch space) s g = s
 
 -- each event of a core keeps a safe machine safe

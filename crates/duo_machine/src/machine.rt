@@ -1,8 +1,9 @@
 //! The state of the two-core machine.
 //!
-//! A core that is about to start a flash operation needs the other one out of the way, since no core may
-//! fetch while the flash is busy. It takes the lock, asks the other core at that core's gate to park, or
-//! holds the gate shut where the other core has not started, and runs its step once it saw the gate.
+//! A core that is about to start a flash operation needs the other one out of the way, since no
+//! core may fetch while the flash is busy. It takes the lock, asks the other core at that core's
+//! gate to park, or holds the gate shut where the other core has not started, and runs its step
+//! once it saw the gate.
 ghost use Rattle.std.specs.Prelude.{◌≡◌, ◌↔◌, ◌<◌, IsTrue};
 ghost use Rattle.duo_machine.specs.Machine.{first_machine, with_gate, with_phase, with_record};
 ghost use Rattle.duo_machine.specs.Machine.{KeepsAway, let_go};

@@ -24,7 +24,8 @@ pub fn step(m: &Machine, e: &Event) -> Option<Machine>
     }
 }
 
-/// The machine after all events, or `None` where some event's guard does not hold when its turn comes.
+/// The machine after all events, or `None` where some event's guard does not hold when its turn
+/// comes.
 pub fn run(m: &Machine, events: &[Event]) -> Option<Machine>
     requires { AreOfTwoCores events.now }
     ensures exact { SomeIff result (CanRun m.now events.now) (after_all m.now events.now) }
@@ -37,8 +38,8 @@ pub fn run(m: &Machine, events: &[Event]) -> Option<Machine>
     Some(reached)
 }
 
-/// Whatever two cores do, in whatever order, a run that begins safe stays safe: no fetch meets a step,
-/// a step runs with both cores masked, and each core keeps its own registers.
+/// Whatever two cores do, in whatever order, a run that begins safe stays safe: no fetch meets a
+/// step, a step runs with both cores masked, and each core keeps its own registers.
 pub fn every_run_is_safe()
     ensures { (m : Machine) (events : List Event) →
         Safe m → AreOfTwoCores events → CanRun m events → IsSafeRun m events }

@@ -179,8 +179,8 @@ module _
           );
         }
 
-    -- a step of the seat that leads the run on by these entries of its core: the rule holds of the state
-    -- then, and the seat's view went on
+    -- a step of the seat that leads the run on by these entries of its core: the rule holds of the
+    -- state then, and the seat's view went on
     pub lands : (s : St) (id : ℕ) (v : View B D) (d : Side records runs stands s id v)
         (ws : List ℕ) (homes : Homes) (own : List Entry) (lock turn : ℕ) (g g' : Gate)
         (run : Option ℕ) (v' : View B D)
@@ -208,7 +208,8 @@ module _
         Paired records runs stands (at records runs stands s id (slice_set s.words i n) s.homes v')
         × Went own v v'
 
-    -- an event on a word: the row of words, the machine and what is known of the gates say what it is
+    -- an event on a word: the row of words, the machine and what is known of the gates say what it
+    -- is
     happens : (s : St) (id i n : ℕ) (kind : Kind) (phase : Phase) (held : Bool) (v : View B D)
         (d : Side records runs stands s id v) (lock : ℕ) (g g' : Gate)
         → (NeedsTurn kind → ⊥)
@@ -232,8 +233,8 @@ module _
         (leads_made d.story.run _ d.turn d.story.leads d.c kind (below_two d.c d.o d.apart) makes.0
         (λ needs. absurd (free needs))))
 
-    -- a step that leaves words and slots as they are: the seat sees the run so far, and the number that
-    -- stands in the word where it leads
+    -- a step that leaves words and slots as they are: the seat sees the run so far, and the number
+    -- that stands in the word where it leads
     pub sees_run : (s : St) (id i : ℕ) (v : View B D) (d : Side records runs stands s id v)
         → Paired records runs stands
         (at records runs stands s id (slice_set s.words i (slice_index s.words i)) s.homes
@@ -255,7 +256,8 @@ module _
           ),
         )
 
-    -- an exchange on a word is the event, where each state that has the awaited number there allows it
+    -- an exchange on a word is the event, where each state that has the awaited number there allows
+    -- it
     exchanges : (key : S) (slots id i from to : ℕ) (me : Me (Option S) (View B D)) (kind : Kind)
         (phase : Phase) (held : Bool) → me.0.stage ≡ One
         → ((s : State (Option S) (View B D)) (d : Side records runs stands s id me.0)

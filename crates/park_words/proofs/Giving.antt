@@ -1,4 +1,5 @@
--- What a crate above needs to give the value back: from how its own calls go on to what may be given.
+-- What a crate above needs to give the value back: from how its own calls go on to what may be
+-- given.
 use Rattle.std.proofs.Common.{◌≡◌, ℕ, zero, suc, ◌∙◌, subst, refl, List, ◌++◌, Option, Some, None}
 use Rattle.core_state.specs.declared.registers.Record.{Record}
 use Rattle.core_state.specs.Sharing.{GoesOn}
@@ -20,7 +21,8 @@ goes stands room x y items (Some b) zero mine theirs on fits before =
 goes stands room x y items (Some b) (suc c) mine theirs on fits before =
     on b mine theirs before (fits b refl)
 
--- a value that is known, with one event done to it and what went on for the seat's core, may be given back
+-- a value that is known, with one event done to it and what went on for the seat's core, may be
+-- given back
 pub gives : {S B D : Type 0} (records : S → ℕ → Record) (runs : S → Option ℕ)
     (stands : S → B → List D → List D → Type 0) (room : B → ℕ → List D → Type 0)
     (x y : S) (v : View B D) (work : Work D) (c : ℕ) → c ≡ v.core → Known records runs stands x v

@@ -134,7 +134,8 @@ module _
     deals id base first =
         two.deals fresh spent (IsOne records runs stands) (IsBoth records runs stands)
         (Start records runs stands key) (Pair records runs stands) (Joined records runs stands)
-        fresh_one spent_one (λ v. both_one v.stage) fresh_both spent_both (spent_fresh records runs stands)
+        fresh_one spent_one (λ v. both_one v.stage) fresh_both spent_both
+        (spent_fresh records runs stands)
         id (dealt 0 base) (dealt 1 base) refl refl (λ ws hs start. record {
           lock = 0;
           turn = 0;
@@ -216,7 +217,8 @@ module _
     joins id id' v w one rests rests' free free' =
         two.joins fresh spent (IsOne records runs stands) (IsBoth records runs stands)
         (Start records runs stands key) (Pair records runs stands) (Joined records runs stands)
-        fresh_one spent_one (λ v. both_one v.stage) fresh_both spent_both (spent_fresh records runs stands)
+        fresh_one spent_one (λ v. both_one v.stage) fresh_both spent_both
+        (spent_fresh records runs stands)
         id id' v w (both_of v w) one refl
         (λ ws hs p. joined ws hs 0 1 p.lock p.turn p.gate p.gate' p.run v w (inl (refl, refl))
         p.numbers p.pairing p.story rests rests' free free')
@@ -232,7 +234,8 @@ module _
     closes id v w u ws xs y e final there =
         let end = two.closes fresh spent (IsOne records runs stands) (IsBoth records runs stands)
         (Start records runs stands key) (Pair records runs stands) (Joined records runs stands)
-        fresh_one spent_one (λ v. both_one v.stage) fresh_both spent_both (spent_fresh records runs stands)
+        fresh_one spent_one (λ v. both_one v.stage) fresh_both spent_both
+        (spent_fresh records runs stands)
         id (both_of v w) ws xs refl
         (subst (λ z. Final (Seen (Ruled records runs stands key) id z) ws xs) e final) in
         let j = end.1 in let h = j.home in (

@@ -1,4 +1,5 @@
--- A state that meets the rule, as the core sees it whose seat makes a step; and the state after the step.
+-- A state that meets the rule, as the core sees it whose seat makes a step; and the state after the
+-- step.
 use Rattle.std.proofs.Common.{◌≡◌, ℕ, zero, suc, ◌+◌, ◌⊎◌, ◌∙◌, ap, subst, sym, refl, inl, inr, List, [], ◌∷◌, slice_set, slice_index, Option}
 use mathlib.Core.Option.{some}
 use mathlib.Core.Option as maybe
@@ -188,7 +189,8 @@ module _
       pub story :
           Story (machine_by c lock gate gate' v.phase w.phase v.registers w.registers run) turn c o
           v.seen w.seen
-      -- whatever words, slots and the seat's view are then: where they fit, the state has two views again
+      -- whatever words, slots and the seat's view are then: where they fit, the state has two views
+      -- again
       pub make : (ws : List ℕ) (hs : List (maybe.Option (Option S))) (l t : ℕ) (g g' : Gate)
           (r : Option ℕ) (v' : View B D) → ws ≡ row c l t g g' → v'.stage ≡ One
           → Pairing records runs stands c o t g g' r hs v' w

@@ -141,12 +141,14 @@ module _ {B D : Type 0} (v : View B D) (c o lock : ℕ) (gate gate' : Gate) (pha
     done (Some Save) r run' d =
         left_at (Some Save) (saved_and_masked v.registers) r run run' d.2 (d.3 ∙ running) (record {
           runs_by = same_step;
-          made = save_step c lock gate gate' v.phase phase' v.registers registers' run small d.0 d.1;
+          made = save_step c lock gate gate' v.phase phase' v.registers registers' run small
+              d.0 d.1;
         })
     done (Some Back) r run' d =
         left_at (Some Back) (restored v.registers) r run run' d.2 (d.3 ∙ running) (record {
           runs_by = same_step;
-          made = back_step c lock gate gate' v.phase phase' v.registers registers' run small d.0 d.1;
+          made = back_step c lock gate gate' v.phase phase' v.registers registers' run small
+              d.0 d.1;
         })
     done (Some (Set wanted)) r run' d =
         left_at (Some (Set wanted)) (record v.registers { regs = wanted }) r run run' d.3

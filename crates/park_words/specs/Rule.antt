@@ -1,4 +1,5 @@
--- What the four words, the value at home and the views stand for. Core c sees its own gate and view first.
+-- What the four words, the value at home and the views stand for. Core c sees its own gate and view
+-- first.
 use Rattle.std.specs.Prelude.{◌≡◌, ℕ, ◌+◌, ◌≤◌, Bool, true, false, ◌↔◌, List, [], ◌∷◌, Option, Some, None}
 use mathlib.Core.Option.{some}
 use mathlib.Core.Option as maybe
@@ -51,7 +52,8 @@ module _ {S B D : Type 0} where
       (S → B → List D → List D → Type 0) → S → Option B → ℕ → List D → List D → Type 0
   StandsBy stands x base c mine theirs = in_order (StandsFor stands x base) c mine theirs
 
--- the value at home has both cores' registers and the running step, and stands for the base and both shares
+-- the value at home has both cores' registers and the running step, and stands for the base and
+-- both shares
 pub record AtHome
     {S B D : Type 0}
     (records : S → ℕ → Record) (runs : S → Option ℕ) (stands : S → B → List D → List D → Type 0)
@@ -101,8 +103,8 @@ module _
       pub zeros : words ≡ 0 ∷ 0 ∷ 0 ∷ 0 ∷ []
       pub home : homes ≡ some (Some key) ∷ []
 
-    -- both seats are out: words, value and views stand for one machine and turn, and one run of both cores
-    -- leads there, of which each view has seen a beginning
+    -- both seats are out: words, value and views stand for one machine and turn, and one run of
+    -- both cores leads there, of which each view has seen a beginning
     pub record Pair
         (words : List ℕ) (homes : List (maybe.Option (Option S))) (left right : View B D)
         : Type 0 where
@@ -118,8 +120,8 @@ module _
           (machine_of lock gate gate' left.phase right.phase left.registers right.registers run)
           turn 0 1 left.seen right.seen
 
-    -- one seat took in the other: all words are 0, the value is at home as both knew it, and one run leads
-    -- to both cores at rest
+    -- one seat took in the other: all words are 0, the value is at home as both knew it, and one
+    -- run leads to both cores at rest
     pub record Joined
         (words : List ℕ) (homes : List (maybe.Option (Option S))) (both : View B D)
         : Type 0 where
@@ -143,7 +145,8 @@ module _
     abbrev pub Paired : State (Option S) (View B D) → Type 0
     Paired s = IsPair IsOne Pair s
 
-    -- the rule: one view for both cores at the start, one for each core, and one for both at the end
+    -- the rule: one view for both cores at the start, one for each core, and one for both at the
+    -- end
     abbrev pub Ruled : S → State (Option S) (View B D) → Type 0
     Ruled key s = HasTwoSeats fresh spent IsOne IsBoth (Start key) Pair Joined s
 
@@ -154,7 +157,8 @@ module _
         machine_of q.lock q.gate q.gate' p.left.phase p.right.phase
         p.left.registers p.right.registers q.run
 
-    -- what words and views stand for is one machine, it is safe, and the run that leads to it is safe
+    -- what words and views stand for is one machine, it is safe, and the run that leads to it is
+    -- safe
     abbrev pub StandForOneSafeMachine : Type 0
     StandForOneSafeMachine =
         (s : State (Option S) (View B D)) (p q : Paired s) →

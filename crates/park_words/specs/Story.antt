@@ -73,8 +73,8 @@ NeedsTurn Leave = ⊥
 NeedsTurn (Set registers) = Unit {0}
 NeedsTurn (Fetch space) = Unit {0}
 
--- a step keeps to the turn: it takes it where it is free, and gives it back or changes the value where it
--- is the core's own
+-- a step keeps to the turn: it takes it where it is free, and gives it back or changes the value
+-- where it is the core's own
 abbrev pub MayAct : ℕ → ℕ → Act → Type 0
 MayAct turn c (Made kind) = NeedsTurn kind → turn ≡ c + 1
 MayAct turn c Took = turn ≡ 0
@@ -127,8 +127,8 @@ pub record Story (m : Machine) (turn c o : ℕ) (mine theirs : List Entry) : Typ
   pub saw : Saw run c mine
   pub saw' : Saw run o theirs
 
--- every run of both cores' steps is safe: over every interleaving no core fetched while a step ran, a step
--- ran with both cores masked, and each core's own registers are those of its last Set
+-- every run of both cores' steps is safe: over every interleaving no core fetched while a step ran,
+-- a step ran with both cores masked, and each core's own registers are those of its last Set
 abbrev pub StoriesAreSafe : Type 0
 StoriesAreSafe =
     (m : Machine) (turn c o : ℕ) (mine theirs : List Entry) (s : Story m turn c o mine theirs) →
@@ -166,8 +166,8 @@ module _ {B D : Type 0} where
     pub taken :
         v.turn ≡ true → (record_of m (other v.core) ≡ v.other) × (m.running ≡ v.running)
 
-  -- one step: the run went on from what the seat had seen by entries of the other core alone, and then by
-  -- these of its own. It may be made, and what the seat knows then is so where it leads
+  -- one step: the run went on from what the seat had seen by entries of the other core alone, and
+  -- then by these of its own. It may be made, and what the seat knows then is so where it leads
   pub record Went (own : List Entry) (v v' : View B D) : Type 0 where
     pub between : List Entry
     pub none_own : done_by v.core between ≡ []
@@ -187,7 +187,8 @@ module _ {B D : Type 0} where
     pub own_is : done_by v.core later ≡ own
 
   -- both seats are back: one run leads to both cores at rest with these registers. Both have seen
-  -- beginnings of it with all that they did, it is safe, and each core has the registers of its own last Set
+  -- beginnings of it with all that they did, it is safe, and each core has the registers of its own
+  -- last Set
   pub record RanToRest (v w : View B D) : Type 0 where
     pub story :
         Story (rest_by v.core v.registers w.registers) 0 v.core (other v.core) v.seen w.seen

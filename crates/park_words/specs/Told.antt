@@ -22,17 +22,32 @@ use Rattle.park_words.specs.Views.{Seated, gate_word, gate_place, saw, with_turn
 use Rattle.park_words.specs.Story.{entry, handed, Went, Looks}
 use Rattle.park_words.specs.Rule.{Ruled, StandsFor, StandsBy}
 
--- what a core did while it had the turn: one event of the machine or none, and what it adds to its share
+-- what a core did while it had the turn: one event of the machine or none, and what it adds to its
+-- share
 pub record Work (D : Type 0) : Type 0 where
   pub event : Option Kind
   pub items : List D
+
+module _ {D : Type 0} where
+  -- no event, and nothing new in the share
+  abbrev pub no_work : Work D
+  no_work = record { event = None; items = [] }
+
+  -- this event, and nothing new in the share
+  abbrev pub event_alone : Kind → Work D
+  event_alone kind = record { event = Some kind; items = [] }
+
+  -- no event, and these new items in the share
+  abbrev pub items_alone : List D → Work D
+  items_alone items = record { event = None; items = items }
 
 -- a core runs, owns the lock, or asks the other one to park
 abbrev pub IsBeforeQuiet : Phase → Type 0
 IsBeforeQuiet phase = (phase ≡ Running) ⊎ (phase ≡ Owning) ⊎ (phase ≡ Asking)
 
 module _ {B D : Type 0} where
-  -- what a core may do to the value while it has the turn: at most one event of its own, by its guard
+  -- what a core may do to the value while it has the turn: at most one event of its own, by its
+  -- guard
   abbrev pub Does : Option Kind → View B D → Record → Option ℕ → Type 0
   Does None v r run = (r ≡ v.registers) × (run ≡ v.running)
   Does (Some Save) v r run =
@@ -114,8 +129,8 @@ module _ {B D : Type 0} where
             with_turn s.view t.view.other t.view.other_share t.view.running t.view.seen;
       })
 
-  -- what a step tells that awaits a number in a word: this event where it read that number, and no change
-  -- where it did not
+  -- what a step tells that awaits a number in a word: this event where it read that number, and no
+  -- change where it did not
   abbrev pub Tells :
       {S : Type 0} → Kind → Phase → Bool → ℕ → Step (Option S) → Me (Option S) (View B D) → ℕ →
       Me (Option S) (View B D) → Type 0
@@ -147,6 +162,12 @@ given records runs s x items seen =
           without_turn s.view (records x s.view.core) (runs x) (s.view.share ++ items) seen;
     }
 
+-- the seat has given the turn back with this value and this work
+abbrev pub HasGiven :
+    {S B D : Type 0} → (S → ℕ → Record) → (S → Option ℕ) → S → Work D → Seated B D → Seated B D →
+    Type 0
+HasGiven records runs x work s t = t ≡ given records runs s x work.items t.view.seen
+
 module _
     {S B D : Type 0}
     (records : S → ℕ → Record) (runs : S → Option ℕ) (stands : S → B → List D → List D → Type 0)
@@ -168,23 +189,23 @@ module _
       -- it stands for the base, the own share and the other core's
       pub stands_by : StandsBy stands x v.base v.core v.share v.other_share
 
-    -- what a core may give back with this work: the value with the other core's registers as taken, and
-    -- what the event of the work makes of the own ones and of the running step, which stands for the base,
-    -- the own share with the new items, and the other core's
+    -- what a core may give back with this work: the value with the other core's registers as taken,
+    -- and what the event of the work makes of the own ones and of the running step, which stands
+    -- for the base, the own share with the new items, and the other core's
     pub record Gives (v : View B D) (x : S) (work : Work D) : Type 0 where
       pub other_is : records x (other v.core) ≡ v.other
       pub does : Does work.event v (records x v.core) (runs x)
       pub stands_by : StandsBy stands x v.base v.core (v.share ++ work.items) v.other_share
 
-    -- what a value is that goes in: both cores at rest, nothing runs, and it stands for a base and no
-    -- shares
+    -- what a value is that goes in: both cores at rest, nothing runs, and it stands for a base and
+    -- no shares
     abbrev pub IsOpening : S → Option B → Type 0
     IsOpening x base =
         (records x 0 ≡ starting) × (records x 1 ≡ starting) × (runs x ≡ None)
         × StandsFor stands x base [] []
 
-    -- what a value is that comes out: it has both seats' registers, nothing runs, and it stands for the
-    -- base and both shares
+    -- what a value is that comes out: it has both seats' registers, nothing runs, and it stands for
+    -- the base and both shares
     pub record IsLast (x : S) (v w : View B D) : Type 0 where
       pub own : records x v.core ≡ v.registers
       pub other_is : records x (other v.core) ≡ w.registers

@@ -97,7 +97,8 @@ module _ {B D : Type 0} where
         seen = seen;
       }
 
-  -- what a seat knows once it has given the turn back, with its registers, the running step and its share
+  -- what a seat knows once it has given the turn back, with its registers, the running step and its
+  -- share
   abbrev pub without_turn : View B D → Record → Option ℕ → List D → List Entry → View B D
   without_turn v registers running share seen =
       record v {

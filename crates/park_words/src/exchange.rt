@@ -45,7 +45,8 @@ impl<V: Records> Words<V> {
         requires table { seat.old.table ≡ self.now }
         requires word { word < 4 }
         requires event { (phase ≡ E.phase) × (held ≡ E.held) }
-        requires may { MayExchange V.records V.runs V.stands E.kind E.phase E.held word awaited next seat.old.view }
+        requires may { MayExchange V.records V.runs V.stands E.kind E.phase E.held
+            word awaited next seat.old.view }
         ensures ok { OnOk result (seat.new ≡ seat_moved seat.old phase held seat.new.view.seen) }
         ensures event { OnOk result (Makes E.kind seat.old seat.new) }
         ensures kept { OnErr result (seat.new ≡ seat_saw seat.old seat.new.view.seen) }
@@ -76,7 +77,8 @@ impl<V: Records> Words<V> {
         requires table { seat.old.table ≡ self.now }
         requires core { core < 2 }
         requires event { (phase ≡ E.phase) × (held ≡ E.held) }
-        requires may { MayPass V.records V.runs V.stands E.kind E.phase E.held core from to seat.old }
+        requires may { MayPass V.records V.runs V.stands E.kind E.phase E.held
+            core from to seat.old }
         ensures ok { OnOk result (seat.new ≡ seat_moved seat.old phase held seat.new.view.seen) }
         ensures event { OnOk result (Makes E.kind seat.old seat.new) }
         ensures kept { OnErr result (seat.new ≡ seat_saw seat.old seat.new.view.seen) }

@@ -9,8 +9,8 @@ use core_state::Records;
 use std::marker::PhantomData;
 use std::snapshot::Snapshot;
 
-/// The four words, the value at home and the views stand for one machine, and one run of both cores leads
-/// there. The key is the value handed in.
+/// The four words, the value at home and the views stand for one machine, and one run of both cores
+/// leads there. The key is the value handed in.
 pub struct Rule<V> {
     of: PhantomData<V>,
 }
@@ -21,14 +21,14 @@ impl<V: Records> TableRule<Option<V>, View<V::Base, V::Did>, Snapshot<V>> for Ru
     ghost first = { λ _. fresh };
 }
 
-/// Whatever state meets the rule with two views in it, words and views stand for one machine, it is safe,
-/// and so is the run that leads to it.
+/// Whatever state meets the rule with two views in it, words and views stand for one machine, it is
+/// safe, and so is the run that leads to it.
 pub fn words_stand_for_one_safe_machine<V: Records>()
     ensures { StandForOneSafeMachine V.records V.runs V.stands }
 {}
 
-/// Over every interleaving of both cores' steps no core fetched while a step ran, a step ran with both
-/// cores masked, and each core kept its own registers.
+/// Over every interleaving of both cores' steps no core fetched while a step ran, a step ran with
+/// both cores masked, and each core kept its own registers.
 pub fn every_run_of_the_words_is_safe()
     ensures { StoriesAreSafe }
 {}

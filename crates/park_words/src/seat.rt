@@ -30,7 +30,8 @@ impl<V: Records> Model for CoreSeat<V> {
 
     ghost Value = { Seated V.Base V.Did };
 
-    ghost view = { λ s. record { table = s.seat.table_id; number = s.seat.id; view = s.seat.me.0 } };
+    ghost view = {
+        λ s. record { table = s.seat.table_id; number = s.seat.id; view = s.seat.me.0 } };
 
     ghost invariant = { λ s. IsKept s.seat.me s.core s.phase s.registers s.turn s.held };
 }

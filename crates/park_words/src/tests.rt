@@ -5,7 +5,7 @@ ghost use Rattle.core_state.specs.Registers.{starting, restored};
 ghost use Rattle.core_state.specs.Sharing.{GoesOn};
 ghost use Rattle.duo_machine.specs.declared.machine.Phase.TheVariants.{Owning};
 ghost use Rattle.park_words.specs.Views.{IsIdle};
-ghost use Rattle.park_words.specs.Told.{Known, Gives, given};
+ghost use Rattle.park_words.specs.Told.{Known, Gives, HasGiven, no_work, event_alone, items_alone};
 
 use crate::{CoreSeat, Seen, Words};
 use core_state::{Record, Records, Regs, restore};
@@ -40,8 +40,10 @@ impl Tally {
     fn put_back(&mut self, core: u8)
         requires core { core < 2 }
         requires saved { IsSome (slice_index_or self.old.registers core starting).saved }
-        ensures own { slice_index_or self.new.registers core starting ≡ restored (slice_index_or self.old.registers core starting) }
-        ensures other { slice_index_or self.new.registers (1 - core) starting ≡ slice_index_or self.old.registers (1 - core) starting }
+        ensures own { slice_index_or self.new.registers core starting ≡
+            restored (slice_index_or self.old.registers core starting) }
+        ensures other { slice_index_or self.new.registers (1 - core) starting ≡
+            slice_index_or self.old.registers (1 - core) starting }
         ensures rest { (self.new.running ≡ self.old.running) × (self.new.total ≡ self.old.total) }
     {
         restore(&mut self.registers[usize::from(core)]);
@@ -50,8 +52,10 @@ impl Tally {
     /// One more, where there is room: what was added.
     fn add_one(&mut self, _core: u8) -> u64
         requires core { _core < 2 }
-        ensures goes_on { GoesOn ⟦<Tally as Records>⟧.stands (λ b c items. ⊤) self.old self.new _core (result ∷ []) }
-        ensures rest { (self.new.registers ≡ self.old.registers) × (self.new.running ≡ self.old.running) }
+        ensures goes_on { GoesOn ⟦<Tally as Records>⟧.stands (λ b c items. ⊤)
+            self.old self.new _core (result ∷ []) }
+        ensures rest {
+            (self.new.registers ≡ self.old.registers) × (self.new.running ≡ self.old.running) }
     {
         let Some(total) = self.total.checked_add(1) else {
             return 0;
@@ -85,8 +89,8 @@ impl Records for Tally {
 fn give_nothing<V: Records>(words: &Words<V>, seat: &mut CoreSeat<V>, value: V)
     requires table { seat.old.table ≡ words.now }
     requires turn { seat.old.view.turn ≡ true }
-    requires value { Gives V.records V.runs V.stands seat.old.view value (record { event = None; items = [] }) }
-    ensures { seat.new ≡ given V.records V.runs seat.old value [] seat.new.view.seen }
+    requires value { Gives V.records V.runs V.stands seat.old.view value no_work }
+    ensures { HasGiven V.records V.runs value no_work seat.old seat.new }
 {
     words.give_turn(seat, value);
 }
@@ -96,7 +100,7 @@ fn give_back<V: Records>(words: &Words<V>, seat: &mut CoreSeat<V>, value: V)
     requires table { seat.old.table ≡ words.now }
     requires turn { seat.old.view.turn ≡ true }
     requires same { Known V.records V.runs V.stands value seat.old.view }
-    ensures { seat.new ≡ given V.records V.runs seat.old value [] seat.new.view.seen }
+    ensures { HasGiven V.records V.runs value no_work seat.old seat.new }
 {
     give_nothing(words, seat, value);
 }
@@ -105,8 +109,8 @@ fn give_back<V: Records>(words: &Words<V>, seat: &mut CoreSeat<V>, value: V)
 fn give_event<V: Records>(words: &Words<V>, seat: &mut CoreSeat<V>, value: V, event: Kind)
     requires table { seat.old.table ≡ words.now }
     requires turn { seat.old.view.turn ≡ true }
-    requires value { Gives V.records V.runs V.stands seat.old.view value (record { event = Some event; items = [] }) }
-    ensures { seat.new ≡ given V.records V.runs seat.old value [] seat.new.view.seen }
+    requires value { Gives V.records V.runs V.stands seat.old.view value (event_alone event) }
+    ensures { HasGiven V.records V.runs value (event_alone event) seat.old seat.new }
 {
     words.give_said(seat, value, &event);
 }
@@ -115,8 +119,12 @@ fn give_event<V: Records>(words: &Words<V>, seat: &mut CoreSeat<V>, value: V, ev
 fn give_added(words: &Words<Tally>, seat: &mut CoreSeat<Tally>, tally: Tally, amount: u64)
     requires table { seat.old.table ≡ words.now }
     requires turn { seat.old.view.turn ≡ true }
-    requires value { Gives ⟦<Tally as Records>⟧.records ⟦<Tally as Records>⟧.runs ⟦<Tally as Records>⟧.stands seat.old.view tally (record { event = None; items = amount ∷ [] }) }
-    ensures { seat.new ≡ given ⟦<Tally as Records>⟧.records ⟦<Tally as Records>⟧.runs seat.old tally (amount ∷ []) seat.new.view.seen }
+    requires value {
+        Gives ⟦<Tally as Records>⟧.records ⟦<Tally as Records>⟧.runs ⟦<Tally as Records>⟧.stands
+            seat.old.view tally (items_alone (amount ∷ [])) }
+    ensures {
+        HasGiven ⟦<Tally as Records>⟧.records ⟦<Tally as Records>⟧.runs
+            tally (items_alone (amount ∷ [])) seat.old seat.new }
 {
     words.give_said(seat, tally, &amount);
 }
@@ -128,7 +136,8 @@ fn restore_own(words: &Words<Tally>, seat: &mut CoreSeat<Tally>) -> Option<Recor
     requires saved { IsSome seat.old.view.registers.saved }
     ensures table { seat.new.table ≡ seat.old.table }
     ensures owning { seat.new.view.phase ≡ Owning }
-    ensures own { IfSome result (λ r. (r ≡ restored seat.old.view.registers) × (seat.new.view.registers ≡ r)) }
+    ensures own { IfSome result (λ r.
+        (r ≡ restored seat.old.view.registers) × (seat.new.view.registers ≡ r)) }
 {
     let Ok(mut tally) = words.take_turn(seat) else {
         return None;
@@ -139,8 +148,8 @@ fn restore_own(words: &Words<Tally>, seat: &mut CoreSeat<Tally>) -> Option<Recor
     Some(own)
 }
 
-/// The turn of one core at a time: the number that a refused core read, and whether core 1 had the turn
-/// then and later.
+/// The turn of one core at a time: the number that a refused core read, and whether core 1 had the
+/// turn then and later.
 fn turns(alloc: Global) -> Option<(u64, bool, bool)> {
     let Ok((words, mut zero, mut one)) = Words::new(alloc, Tally::new()) else {
         return None;
@@ -162,7 +171,8 @@ fn turns(alloc: Global) -> Option<(u64, bool, bool)> {
     Some((word, refused, taken))
 }
 
-/// Core 1 has the lock: the number that core 0 read, the registers that core 1 got back, its phase at the end.
+/// Core 1 has the lock: the number that core 0 read, the registers that core 1 got back, its phase
+/// at the end.
 fn lock_and_back(alloc: Global) -> Option<(u64, Record, Phase)> {
     let Ok((words, mut zero, mut one)) = Words::new(alloc, Tally::new()) else {
         return None;

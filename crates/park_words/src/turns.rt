@@ -1,7 +1,7 @@
 //! Taking the turn with the value, and giving both back.
 ghost use Rattle.std.specs.Prelude.{◌≡◌, true, OnOk, OnErr, IfOk, IfErr};
 ghost use Rattle.park_words.specs.Views.{seat_saw};
-ghost use Rattle.park_words.specs.Told.{Work, HasTaken, Known, TookTurn, SawTurn, Gives, GaveTurn, given};
+ghost use Rattle.park_words.specs.Told.{Work, HasTaken, Known, TookTurn, SawTurn, Gives, HasGiven, GaveTurn};
 
 use crate::seat::{CoreSeat, Seen};
 use crate::steps::{GiveTurn, TakeTurn, Worked};
@@ -10,8 +10,8 @@ use core_state::Records;
 use std::marker::Brand;
 
 impl<V: Records> Words<V> {
-    /// The value, where nobody has the turn. It has the seat's registers, and stands for what the core
-    /// did so far and for what the other core did.
+    /// The value, where nobody has the turn. It has the seat's registers, and stands for what the
+    /// core did so far and for what the other core did.
     pub fn take_turn(&self, seat: &mut CoreSeat<V>) -> Result<V, Seen>
         requires { seat.old.table ≡ self.now }
         ensures ok { OnOk result (HasTaken seat.old seat.new) }
@@ -32,26 +32,27 @@ impl<V: Records> Words<V> {
         Ok(value)
     }
 
-    /// The value goes home and the turn is free. The value differs from what was taken by the event that the
-    /// caller names: Save, Back, Set, Fetch, Begin, Done or none.
+    /// The value goes home and the turn is free. The value differs from what was taken by the event
+    /// that the caller names: Save, Back, Set, Fetch, Begin, Done or none.
     pub fn give_turn(&self, seat: &mut CoreSeat<V>, value: V)
         ghost work: { Work V.Did }
         requires table { seat.old.table ≡ self.now }
         requires turn { seat.old.view.turn ≡ true }
         requires value { Gives V.records V.runs V.stands seat.old.view value work }
-        ensures exact { seat.new ≡ given V.records V.runs seat.old value work.items seat.new.view.seen }
+        ensures exact { HasGiven V.records V.runs value work seat.old seat.new }
         ensures event { GaveTurn work seat.old seat.new }
     {
         self.give::<Brand>(seat, value)
     }
 
-    /// The same, for a caller whose work depends on what it did: it hands that in, for the proof alone.
+    /// The same, for a caller whose work depends on what it did: it hands that in, for the proof
+    /// alone.
     pub fn give_said<T>(&self, seat: &mut CoreSeat<V>, value: V, _said: &T)
         ghost work: { Work V.Did }
         requires table { seat.old.table ≡ self.now }
         requires turn { seat.old.view.turn ≡ true }
         requires value { Gives V.records V.runs V.stands seat.old.view value work }
-        ensures exact { seat.new ≡ given V.records V.runs seat.old value work.items seat.new.view.seen }
+        ensures exact { HasGiven V.records V.runs value work seat.old seat.new }
         ensures event { GaveTurn work seat.old seat.new }
     {
         self.give_turn(seat, value)
@@ -62,7 +63,7 @@ impl<V: Records> Words<V> {
         requires table { seat.old.table ≡ self.now }
         requires turn { seat.old.view.turn ≡ true }
         requires value { Gives V.records V.runs V.stands seat.old.view value J.work }
-        ensures exact { seat.new ≡ given V.records V.runs seat.old value J.work.items seat.new.view.seen }
+        ensures exact { HasGiven V.records V.runs value J.work seat.old seat.new }
         ensures event { GaveTurn J.work seat.old seat.new }
     {
         let shared = &self.table.shared;

@@ -25,7 +25,8 @@ pub enum Act {
     Gave,
 }
 
-/// One entry of the run of both cores: a core, 0 or 1, and what its step was. No value of it is made.
+/// One entry of the run of both cores: a core, 0 or 1, and what its step was. No value of it is
+/// made.
 pub struct Entry {
     pub core: u8,
     pub act: Act,

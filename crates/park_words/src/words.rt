@@ -1,8 +1,8 @@
 //! The four words and the value, made and taken apart.
 //!
-//! Word 0 is the lock and word 1 the turn: 0 for nobody, else the core's number plus 1. Word 2 is the gate of
-//! core 0 and word 3 that of core 1: 0 Rest, 1 Run, 2 Asked, 3 Parked, 4 Freed, 5 Held. The one slot holds the
-//! value while the turn is nobody's.
+//! Word 0 is the lock and word 1 the turn: 0 for nobody, else the core's number plus 1. Word 2 is
+//! the gate of core 0 and word 3 that of core 1: 0 Rest, 1 Run, 2 Asked, 3 Parked, 4 Freed, 5 Held.
+//! The one slot holds the value while the turn is nobody's.
 ghost use Rattle.std.specs.Prelude.{◌≡◌, ◌<◌, [], Some, IfOk, IfErr};
 ghost use Rattle.park_words.specs.Views.{fresh, dealt, IsIdle};
 ghost use Rattle.park_words.specs.Story.{RanToRest};
@@ -60,7 +60,8 @@ fn deal<V: Records, O: Origin<V::Base>>(
     requires words { 0 < table.now.shared.table_id.words }
     requires first { seat.old.me ≡ (fresh, []) }
     requires value { IsOpening V.records V.runs V.stands table.now.shared.key.value O.base }
-    ensures tables { (seat.new.table_id ≡ seat.old.table_id) × (result.table_id ≡ seat.old.table_id) }
+    ensures tables {
+        (seat.new.table_id ≡ seat.old.table_id) × (result.table_id ≡ seat.old.table_id) }
     ensures views { (seat.new.me ≡ (dealt 0 O.base, [])) × (result.me ≡ (dealt 1 O.base, [])) }
 {
     table.shared.split_seat::<Deal<O>>(seat)
