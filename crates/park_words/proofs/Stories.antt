@@ -287,14 +287,29 @@ module _ {B D : Type 0} where
         (subst (λ c. done_by c b.later ≡ more) a.core b.own_is);
   }
 
+  -- no step is a walk
+  pub ran_none : (v : View B D) → Ran [] v v
+  ran_none v = record { core = refl; later = []; is = sym (append-nil v.seen); own_is = refl }
+
   -- a walk of which nothing is the core's own goes on by a look
   pub ran_looks : (u v w : View B D) → w.core ≡ v.core → Ran [] u v → Went [] v w → Ran [] u w
   ran_looks u v w core a h = ran_then [] [] u v w a (ran [] v w core refl h)
 
-  -- it goes on by an event of the core
-  pub ran_made : (kind : Kind) (u v w : View B D) → w.core ≡ v.core → Ran [] u v
-      → Went (entry v.core (Made kind) ∷ []) v w → Ran (entry u.core (Made kind) ∷ []) u w
-  ran_made kind u v w core a h =
-      subst (λ c. Ran (entry c (Made kind) ∷ []) u w) a.core
-      (ran_then [] (entry v.core (Made kind) ∷ []) u v w a
+  -- a walk goes on by an event of the core
+  pub ran_made : (own : List Entry) (kind : Kind) (u v w : View B D) → w.core ≡ v.core
+      → Ran own u v → Went (entry v.core (Made kind) ∷ []) v w
+      → Ran (own ++ entry u.core (Made kind) ∷ []) u w
+  ran_made own kind u v w core a h =
+      subst (λ c. Ran (own ++ entry c (Made kind) ∷ []) u w) a.core
+      (ran_then own (entry v.core (Made kind) ∷ []) u v w a
       (ran (entry v.core (Made kind) ∷ []) v w core (mine_own v.core (Made kind) []) h))
+
+  -- the same, where nothing of the walk was the core's own
+  pub ran_step : (kind : Kind) (u v w : View B D) → w.core ≡ v.core → Ran [] u v
+      → Went (entry v.core (Made kind) ∷ []) v w → Ran (entry u.core (Made kind) ∷ []) u w
+  ran_step kind u v w core a h = ran_made [] kind u v w core a h
+
+  -- an event of the core is a walk
+  pub ran_first : (kind : Kind) (v w : View B D) → w.core ≡ v.core
+      → Went (entry v.core (Made kind) ∷ []) v w → Ran (entry v.core (Made kind) ∷ []) v w
+  ran_first kind v w core h = ran_made [] kind v v w core (ran_none v) h

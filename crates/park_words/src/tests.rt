@@ -3,8 +3,11 @@ ghost use Rattle.std.specs.Prelude.{◌≡◌, ◌+◌, ◌<◌, true, false, []
 ghost use Rattle.std.specs.Thread.{IsSync};
 ghost use Rattle.core_state.specs.Registers.{starting, restored};
 ghost use Rattle.core_state.specs.Sharing.{GoesOn};
-ghost use Rattle.duo_machine.specs.declared.machine.Phase.TheVariants.{Owning};
-ghost use Rattle.park_words.specs.Views.{IsIdle};
+ghost use Rattle.duo_machine.specs.declared.machine.Phase.TheVariants.{Resting, Running, Owning};
+ghost use Rattle.duo_machine.specs.declared.events.Kind.TheVariants.{Start};
+ghost use Rattle.park_words.specs.declared.view.Act.TheVariants.{Made};
+ghost use Rattle.park_words.specs.Views.{IsIdle, in_phase};
+ghost use Rattle.park_words.specs.Story.{entry, Ran};
 ghost use Rattle.park_words.specs.Told.{Known, Gives, HasGiven, no_work, event_alone, items_alone};
 
 use crate::{CoreSeat, Seen, Words};
@@ -173,7 +176,7 @@ fn turns(alloc: Global) -> Option<(u64, bool, bool)> {
 
 /// Core 1 has the lock: the number that core 0 read, the registers that core 1 got back, its phase
 /// at the end.
-fn lock_and_back(alloc: Global) -> Option<(u64, Record, Phase)> {
+fn lock_and_back(alloc: Global) -> Option<(u64, [Record; 2], Phase)> {
     let Ok((words, mut zero, mut one)) = Words::new(alloc, Tally::new()) else {
         return None;
     };
@@ -196,7 +199,7 @@ fn lock_and_back(alloc: Global) -> Option<(u64, Record, Phase)> {
         return None;
     };
     words.give_lock(&mut one);
-    Some((taken.word, own, one.phase()))
+    Some((taken.word, [own, one.record()], one.phase()))
 }
 
 /// Core 0 holds core 1 at rest: the numbers that a refused ask and a refused start read.
@@ -269,6 +272,31 @@ fn parked(alloc: Global) -> Option<([u64; 4], bool)> {
     Some(([lock.word, running.word, unparked.word, parked.word], asked))
 }
 
+/// Tries until the core runs. Of the core's own entries the run gains Start alone.
+#[tactic(auto, using(crate::proofs::Stories::ran_looks, crate::proofs::Stories::ran_step, crate::proofs::Stories::ran_none))]
+fn start_waiting<R: Wait, V: Records>(rt: &R, words: &Words<V>, seat: &mut CoreSeat<V>)
+    requires table { seat.old.table ≡ words.now }
+    requires resting { seat.old.view.phase ≡ Resting }
+    ensures exact { seat.new ≡ in_phase seat.old Running seat.new.view.seen }
+    ensures ran { Ran (entry seat.old.view.core (Made Start) ∷ []) seat.old.view seat.new.view }
+{
+    for _ in rt.forever() {
+        if words.start(seat).is_ok() {
+            return;
+        }
+        thread::yield_now();
+    }
+}
+
+/// Core 0 waits until it runs: its phase then.
+fn waits<R: Wait>(rt: &R, alloc: Global) -> Option<Phase> {
+    let Ok((words, mut zero, _one)) = Words::new(alloc, Tally::new()) else {
+        return None;
+    };
+    start_waiting(rt, &words, &mut zero);
+    Some(zero.phase())
+}
+
 #[test]
 fn rows_of_steps(rt: HostRuntime) {
     assert_eq!(rt;
@@ -280,10 +308,10 @@ fn rows_of_steps(rt: HostRuntime) {
         lock_and_back(rt.alloc()),
         Some((
             2,
-            Record {
+            [Record {
                 regs: Regs { mask: 3, irq: 1 },
                 saved: None,
-            },
+            }; 2],
             Phase::Running
         )),
         "core 1 takes the lock, gets its registers back and gives the lock back"
@@ -297,6 +325,11 @@ fn rows_of_steps(rt: HostRuntime) {
         parked(rt.alloc()),
         Some(([1, 1, 2, 3], true)),
         "core 1 parks and leaves"
+    );
+    assert_eq!(rt;
+        waits(&rt, rt.alloc()),
+        Some(Phase::Running),
+        "core 0 waits until it runs"
     );
 }
 
