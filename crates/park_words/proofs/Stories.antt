@@ -1,5 +1,5 @@
 -- Runs of both cores' steps: a run with more at its end, safety, and what a step adds to a story.
-use Rattle.std.proofs.Common.{◌≡◌, ◌≢◌, ◌==◌, ℕ, zero, suc, ◌+◌, ◌<◌, ◌++◌, ◌∙◌, ap, subst, sym, refl, inl, Bool, true, false, List, [], ◌∷◌, Option, Some, None, ne_eqb, eq-eqb, append-nil, append_assoc, arith}
+use Rattle.std.proofs.Common.{◌≡◌, ◌≢◌, ◌==◌, ℕ, zero, suc, ◌+◌, ◌<◌, ◌++◌, ◌∙◌, ap, subst, sym, refl, inl, inr, ◌⊎◌, Bool, true, false, List, [], ◌∷◌, Option, Some, None, ne_eqb, eq-eqb, append-nil, append_assoc, arith}
 use Rattle.std.specs.Prelude.{if◌then◌else◌}
 use Rattle.core_state.specs.declared.registers.Regs.{Regs}
 use Rattle.duo_machine.specs.declared.machine.Phase.TheVariants.{Owning, Quiet}
@@ -17,7 +17,7 @@ use Rattle.park_words.specs.declared.view.Act.TheVariants.{Made, Took, Gave}
 use Rattle.park_words.specs.declared.view.Entry.{Entry}
 use Rattle.park_words.specs.declared.view.View.{View}
 use Rattle.park_words.specs.Views.{gate_word, held_gate}
-use Rattle.park_words.specs.Story.{entry, done_by, AreOfBothCores, event_of, events_of, turn_by, turn_after, NeedsTurn, MayAct, KeepTurns, machine_at, turn_at, word_of, CanBeMade, Leads, Saw, Story, StoriesAreSafe, handed, Agrees, Went, Looks, Ran}
+use Rattle.park_words.specs.Story.{entry, done_by, AreOfBothCores, event_of, events_of, turn_by, turn_after, NeedsTurn, MayAct, KeepTurns, LeavesTurn, UsesTurn, LeaveTurn, TookSince, TurnsAreOfOneCore, machine_at, turn_at, word_of, CanBeMade, Leads, Saw, Story, StoriesAreSafe, handed, Agrees, Went, Looks, Ran}
 use Rattle.park_words.proofs.MachineSteps.{Steps}
 
 -- entries of both cores have events of both cores
@@ -206,6 +206,64 @@ leads_handed run m n turn c (Some kind) l small has step =
     (λ k. (append_assoc run (entry c (Made kind) ∷ []) (entry c Gave ∷ []) k, sym step.1 k))
     (leads_turn (run ++ entry c (Made kind) ∷ []) (changed m c kind) turn
     (leads_made run m turn l c kind small step.0 (λ _. has)) c Gave refl small has)
+
+-- where a run leads to the turn of a core, it took the turn and nobody else used it since
+took_since : (c t : ℕ) (es : List Entry) → KeepTurns t es → turn_after t es ≡ c + 1
+    → ((t ≡ c + 1) × LeaveTurn c es) ⊎ TookSince es c
+took_since c t [] turns is = inl (is, tt)
+took_since c t (e ∷ es) turns is =
+    by_act e.act refl turns.0 (took_since c (turn_by t e.core e.act) es turns.1 is)
+  where
+    more : TookSince es c → TookSince (e ∷ es) c
+    more h = record {
+      before = e ∷ h.before;
+      since = h.since;
+      splits = ap (λ x. e ∷ x) h.splits;
+      leave = h.leave;
+    }
+
+    by_act : (act : Act) → e.act ≡ act → MayAct t e.core act
+        → ((turn_by t e.core act ≡ c + 1) × LeaveTurn c es) ⊎ TookSince es c
+        → ((t ≡ c + 1) × (LeavesTurn c e.core e.act × LeaveTurn c es)) ⊎ TookSince (e ∷ es) c
+    by_act act act_is may (inr h) = inr (more h)
+    by_act (Made kind) act_is may (inl h) = inl (
+      h.0,
+      (
+        subst (LeavesTurn c e.core) (sym act_is)
+            (λ needs. let a = may needs in let b = h.0 in omega arith),
+        h.1,
+      ),
+    )
+    by_act Took act_is may (inl h) = let b = h.0 in let core : e.core ≡ c = omega arith in
+        inr (record {
+          before = [];
+          since = es;
+          splits = λ k. record { core = core k; act = act_is k } ∷ es;
+          leave = h.1;
+        })
+    by_act Gave act_is may (inl h) = let b = h.0 in absurd (omega arith)
+
+turns_split : (t : ℕ) (front rest : List Entry) → KeepTurns t (front ++ rest)
+    → KeepTurns t front × KeepTurns (turn_after t front) rest
+turns_split t [] rest turns = (tt, turns)
+turns_split t (e ∷ front) rest turns = let parts =
+    turns_split (turn_by t e.core e.act) front rest turns.1 in ((turns.0, parts.0), parts.1)
+
+-- what is done to the value from the turn taken to the turn given back is of one core
+pub turns_are_of_one_core : TurnsAreOfOneCore
+turns_are_of_one_core = λ front rest e made uses.
+    let parts = turns_split 0 front (e ∷ rest) made.turns in
+    last front e.core (took_since e.core 0 front parts.0 (has (turn_after 0 front) e.core e.act uses parts.1.0))
+  where
+    has : (t c : ℕ) (act : Act) → UsesTurn act → MayAct t c act → t ≡ c + 1
+    has t c (Made kind) uses may = may uses
+    has t c Took uses may = absurd uses
+    has t c Gave uses may = may
+
+    last : (front : List Entry) (c : ℕ)
+        → ((0 ≡ c + 1) × LeaveTurn c front) ⊎ TookSince front c → TookSince front c
+    last front c (inl h) = let a = h.0 in absurd (omega arith)
+    last front c (inr h) = h
 
 -- a story goes on by entries of a core, which has seen all of it then
 pub grows : (m n : Machine) (turn turn' c o : ℕ) (mine theirs own : List Entry)

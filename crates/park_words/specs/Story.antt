@@ -134,6 +134,36 @@ StoriesAreSafe =
     (m : Machine) (turn c o : ℕ) (mine theirs : List Entry) (s : Story m turn c o mine theirs) →
     IsSafeRun first_machine (events_of s.run)
 
+-- an act that only the core does that has the turn
+abbrev pub UsesTurn : Act → Type 0
+UsesTurn (Made kind) = NeedsTurn kind
+UsesTurn Took = ⊥
+UsesTurn Gave = Unit {0}
+
+-- an act of a core that leaves the turn with this core
+abbrev pub LeavesTurn : ℕ → ℕ → Act → Type 0
+LeavesTurn c d (Made kind) = NeedsTurn kind → d ≡ c
+LeavesTurn c d Took = ⊥
+LeavesTurn c d Gave = ⊥
+
+abbrev pub LeaveTurn : ℕ → List Entry → Type 0
+LeaveTurn c [] = Unit {0}
+LeaveTurn c (e ∷ es) = LeavesTurn c e.core e.act × LeaveTurn c es
+
+-- the core took the turn, and since then it was neither taken nor given, and only this core changed the
+-- value
+pub record TookSince (run : List Entry) (c : ℕ) : Type 0 where
+  pub before : List Entry
+  pub since : List Entry
+  pub splits : run ≡ before ++ entry c Took ∷ since
+  pub leave : LeaveTurn c since
+
+-- from the turn taken to the turn given back, what is done to the value is of one core
+abbrev pub TurnsAreOfOneCore : Type 0
+TurnsAreOfOneCore =
+    (front rest : List Entry) (e : Entry) → CanBeMade (front ++ e ∷ rest) → UsesTurn e.act →
+    TookSince front e.core
+
 -- the machine of these two cores, core 0 first
 abbrev pub machine_of :
     ℕ → Gate → Gate → Phase → Phase → Record → Record → Option ℕ → Machine

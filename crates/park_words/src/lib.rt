@@ -15,7 +15,9 @@ mod turns;
 mod view;
 mod words;
 
-pub use rule::{every_run_of_the_words_is_safe, words_stand_for_one_safe_machine};
+pub use rule::{
+    every_run_of_the_words_is_safe, every_turn_is_of_one_core, words_stand_for_one_safe_machine,
+};
 pub use seat::{CoreSeat, Seen};
 pub use view::{Act, Entry, Stage, View};
 pub use words::{NoWords, Words};

@@ -1,6 +1,6 @@
 //! The rule of the table.
 ghost use Rattle.park_words.specs.Views.{fresh};
-ghost use Rattle.park_words.specs.Story.{StoriesAreSafe};
+ghost use Rattle.park_words.specs.Story.{StoriesAreSafe, TurnsAreOfOneCore};
 ghost use Rattle.park_words.specs.Rule.{Ruled, StandForOneSafeMachine};
 
 use crate::view::View;
@@ -31,4 +31,9 @@ pub fn words_stand_for_one_safe_machine<V: Records>()
 /// both cores masked, and each core kept its own registers.
 pub fn every_run_of_the_words_is_safe()
     ensures { StoriesAreSafe }
+{}
+
+/// From the turn taken to the turn given back, what is done to the value is of one core.
+pub fn every_turn_is_of_one_core()
+    ensures { TurnsAreOfOneCore }
 {}
