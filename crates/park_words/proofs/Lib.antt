@@ -2,6 +2,7 @@ pub mod MachineSteps
 pub mod Stories
 pub mod Sides
 pub mod Exchanges
+pub mod Events
 pub mod TurnSteps
 pub mod Seats
 pub mod May

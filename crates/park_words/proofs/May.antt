@@ -12,7 +12,7 @@ use Rattle.park_words.specs.declared.view.View.{View}
 use Rattle.park_words.specs.Views.{gate_word, held_gate}
 use Rattle.park_words.specs.Rule.{Ruled}
 use Rattle.park_words.specs.Told.{MayExchange, TellsExchange}
-use Rattle.park_words.proofs.Exchanges.{takes_lock, gives_lock, starts, rests, parks, leaves, asks, holds, ends}
+use Rattle.park_words.proofs.Events.{takes_lock, gives_lock, starts, rests, parks, leaves, asks, holds, ends}
 
 module _
     {S B D : Type 0}

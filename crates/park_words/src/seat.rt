@@ -30,8 +30,7 @@ impl<V: Records> Model for CoreSeat<V> {
 
     ghost Value = { Seated V.Base V.Did };
 
-    ghost view = {
-        λ s. record { table = s.seat.table_id; number = s.seat.id; view = s.seat.me.0 } };
+    ghost view = { λ s. record { table = s.seat.table_id; number = s.seat.id; view = s.seat.me.0 } };
 
     ghost invariant = { λ s. IsKept s.seat.me s.core s.phase s.registers s.turn s.held };
 }
@@ -45,6 +44,7 @@ impl<V: Records> CoreSeat<V> {
         self.core
     }
 
+    /// What its core is doing.
     pub fn phase(&self) -> Phase
         ensures { result ≡ self.now.view.phase }
     {
@@ -58,6 +58,7 @@ impl<V: Records> CoreSeat<V> {
         self.registers
     }
 
+    /// Whether its core has the turn.
     pub fn has_turn(&self) -> bool
         ensures { result ≡ self.now.view.turn }
     {

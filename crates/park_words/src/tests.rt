@@ -57,8 +57,7 @@ impl Tally {
         requires core { _core < 2 }
         ensures goes_on { GoesOn ⟦<Tally as Records>⟧.stands (λ b c items. ⊤)
             self.old self.new _core (result ∷ []) }
-        ensures rest {
-            (self.new.registers ≡ self.old.registers) × (self.new.running ≡ self.old.running) }
+        ensures rest { (self.new.registers ≡ self.old.registers) × (self.new.running ≡ self.old.running) }
     {
         let Some(total) = self.total.checked_add(1) else {
             return 0;
@@ -122,12 +121,10 @@ fn give_event<V: Records>(words: &Words<V>, seat: &mut CoreSeat<V>, value: V, ev
 fn give_added(words: &Words<Tally>, seat: &mut CoreSeat<Tally>, tally: Tally, amount: u64)
     requires table { seat.old.table ≡ words.now }
     requires turn { seat.old.view.turn ≡ true }
-    requires value {
-        Gives ⟦<Tally as Records>⟧.records ⟦<Tally as Records>⟧.runs ⟦<Tally as Records>⟧.stands
-            seat.old.view tally (items_alone (amount ∷ [])) }
-    ensures {
-        HasGiven ⟦<Tally as Records>⟧.records ⟦<Tally as Records>⟧.runs
-            tally (items_alone (amount ∷ [])) seat.old seat.new }
+    requires value { Gives ⟦<Tally as Records>⟧.records ⟦<Tally as Records>⟧.runs ⟦<Tally as Records>⟧.stands
+        seat.old.view tally (items_alone (amount ∷ [])) }
+    ensures { HasGiven ⟦<Tally as Records>⟧.records ⟦<Tally as Records>⟧.runs
+        tally (items_alone (amount ∷ [])) seat.old seat.new }
 {
     words.give_said(seat, tally, &amount);
 }

@@ -45,7 +45,7 @@ impl<V: Records> Model for Words<V> {
     ghost invariant = { λ w. HasFourWords w.table.shared.table_id };
 }
 
-/// There was no memory. The value comes back.
+/// Out of memory: the value comes back.
 #[derive(Drop)]
 pub struct NoWords<V> {
     pub value: V,
@@ -60,8 +60,7 @@ fn deal<V: Records, O: Origin<V::Base>>(
     requires words { 0 < table.now.shared.table_id.words }
     requires first { seat.old.me ≡ (fresh, []) }
     requires value { IsOpening V.records V.runs V.stands table.now.shared.key.value O.base }
-    ensures tables {
-        (seat.new.table_id ≡ seat.old.table_id) × (result.table_id ≡ seat.old.table_id) }
+    ensures tables { (seat.new.table_id ≡ seat.old.table_id) × (result.table_id ≡ seat.old.table_id) }
     ensures views { (seat.new.me ≡ (dealt 0 O.base, [])) × (result.me ≡ (dealt 1 O.base, [])) }
 {
     table.shared.split_seat::<Deal<O>>(seat)
