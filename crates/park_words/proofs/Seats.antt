@@ -132,7 +132,7 @@ module _
     pub deals : (id : ℕ) (base : Option B) → IsOpening records runs stands key base
         → Splits (Ruled records runs stands key) id fresh (dealt 0 base) (dealt 1 base)
     deals id base first =
-        two.deals fresh spent (IsOne records runs stands) (IsBoth records runs stands)
+        two.deals fresh spent IsOne IsBoth
         (Start records runs stands key) (Pair records runs stands) (Joined records runs stands)
         fresh_one spent_one (λ v. both_one v.stage) fresh_both spent_both
         (spent_fresh records runs stands)
@@ -215,7 +215,7 @@ module _
         → w.phase ≡ Resting → v.turn ≡ false → w.turn ≡ false
         → Joins (Ruled records runs stands key) id v id' w (both_of v w) spent
     joins id id' v w one rests rests' free free' =
-        two.joins fresh spent (IsOne records runs stands) (IsBoth records runs stands)
+        two.joins fresh spent IsOne IsBoth
         (Start records runs stands key) (Pair records runs stands) (Joined records runs stands)
         fresh_one spent_one (λ v. both_one v.stage) fresh_both spent_both
         (spent_fresh records runs stands)
@@ -232,7 +232,7 @@ module _
         → get_elem? xs 0 ≡ some y
         → (x : S) × (y ≡ Some x) × IsLast records runs stands x v w × RanToRest v w
     closes id v w u ws xs y e final there =
-        let end = two.closes fresh spent (IsOne records runs stands) (IsBoth records runs stands)
+        let end = two.closes fresh spent IsOne IsBoth
         (Start records runs stands key) (Pair records runs stands) (Joined records runs stands)
         fresh_one spent_one (λ v. both_one v.stage) fresh_both spent_both
         (spent_fresh records runs stands)

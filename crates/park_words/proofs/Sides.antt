@@ -271,7 +271,7 @@ module _
         → Ruled records runs stands key s → v.stage ≡ One → get_elem? s.views id ≡ some v
         → Side s id v
     side key s id v r one found =
-        of_place (pair_at fresh spent (IsOne records runs stands) (IsBoth records runs stands)
+        of_place (pair_at fresh spent IsOne IsBoth
         (Start records runs stands key) (Pair records runs stands) (Joined records runs stands)
         fresh_one spent_one (λ v. both_one v.stage) fresh_both spent_both spent_fresh s id v r one
         found)

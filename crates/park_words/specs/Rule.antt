@@ -93,6 +93,14 @@ pub record Pairing
   pub knows : KnowsGate v.phase v.held gate'
   pub knows' : KnowsGate w.phase w.held gate
 
+-- the view is of one core
+abbrev pub IsOne : {B D : Type 0} → View B D → Type 0
+IsOne v = v.stage ≡ One
+
+-- the view is of both cores again
+abbrev pub IsBoth : {B D : Type 0} → View B D → Type 0
+IsBoth v = v.stage ≡ Both
+
 module _
     {S B D : Type 0}
     (records : S → ℕ → Record) (runs : S → Option ℕ) (stands : S → B → List D → List D → Type 0)
@@ -133,13 +141,6 @@ module _
       pub story :
           Story (rest_by both.core both.registers both.other) 0 both.core (other both.core)
           both.seen both.other_seen
-
-    -- the view is of one core, or of both again
-    abbrev pub IsOne : View B D → Type 0
-    IsOne v = v.stage ≡ One
-
-    abbrev pub IsBoth : View B D → Type 0
-    IsBoth v = v.stage ≡ Both
 
     -- there are two views, of core 0 and core 1, and what words and views stand for is one machine
     abbrev pub Paired : State (Option S) (View B D) → Type 0
