@@ -4,9 +4,9 @@ use Rattle.std.specs.List.{find, list_all}
 use Rattle.std.specs.declared.alloc.Global.{Global}
 use Rattle.flash_cli.specs.declared.command.Row.{Row as CodeRow}
 use Rattle.flash_cli.specs.declared.command.Kind.{Kind}
-use Rattle.flash_cli.specs.declared.command.Kind.TheVariants.{Choose as ChooseKind}
+use Rattle.flash_cli.specs.declared.command.Kind.TheVariants.{Choose as ChooseKind, TableMake as TableMakeKind, TableShow as TableShowKind}
 use Rattle.flash_cli.specs.declared.command.Command.{Command as Parsed}
-use Rattle.flash_cli.specs.declared.command.Command.TheVariants.{Choose as ParsedChoose}
+use Rattle.flash_cli.specs.declared.command.Command.TheVariants.{Choose as ParsedChoose, TableMake as ParsedTableMake, TableShow as ParsedTableShow}
 
 -- a row of the table of commands: the word, how many names stand after it, and whether it starts cores
 pub record Row : Type 0 where
@@ -19,6 +19,8 @@ pub record Row : Type 0 where
 abbrev pub rows : List Row
 rows =
     record { kind = ChooseKind; word = codes "choose"; names = 1; cores = false } ∷
+    record { kind = TableMakeKind; word = codes "table-make"; names = 2; cores = false } ∷
+    record { kind = TableShowKind; word = codes "table-show"; names = 1; cores = false } ∷
     []
 
 -- a row of the code
@@ -28,15 +30,23 @@ shown_row row = record { kind = row.kind; word = row.word.now; names = row.names
 -- a command, with the names of its files
 pub data Command : Type 0 where
   Choose : List ℕ → Command
+  TableMake : List ℕ → List ℕ → Command
+  TableShow : List ℕ → Command
 
 -- the command of this kind with these names, where they are as many as it has
 abbrev pub made : Kind → List (List ℕ) → Option Command
 made ChooseKind (flash ∷ []) = Some (Choose flash)
 made ChooseKind _ = None
+made TableMakeKind (csv ∷ out ∷ []) = Some (TableMake csv out)
+made TableMakeKind _ = None
+made TableShowKind (file ∷ []) = Some (TableShow file)
+made TableShowKind _ = None
 
 -- a command without the borrow of its words
 abbrev pub shown : Parsed → Command
 shown (ParsedChoose flash) = Choose flash.now
+shown (ParsedTableMake csv out) = TableMake csv.now out.now
+shown (ParsedTableShow file) = TableShow file.now
 
 -- whether a word can name a file: it isn't empty, and doesn't begin with a minus sign
 abbrev pub is_file_name : List ℕ → Bool

@@ -6,5 +6,7 @@ pub mod Text
 pub mod Answer
 pub mod Reading
 pub mod Choose
+pub mod TableMake
+pub mod TableShow
 pub mod Report
 pub mod Laws

@@ -13,14 +13,18 @@ use Rattle.flash_cli.specs.declared.refusal.Refusal.{Refusal}
 use Rattle.flash_cli.specs.declared.refusal.Refusal.TheVariants.{Absent as AbsentFile}
 use Rattle.flash_cli.specs.declared.status.Status.{Status}
 use Rattle.flash_cli.specs.declared.status.Status.TheVariants.{Done}
-use Rattle.flash_cli.specs.Command.{Command, Choose}
+use Rattle.flash_cli.specs.Command.{Command, Choose, TableMake, TableShow}
 use Rattle.flash_cli.specs.Reading.{Reading, Ended, Asks, Absence, ComesTo, TellsAnswer, read_in}
 use Rattle.flash_cli.specs.Answer.{Answer, Outcome, TellsPuts, TellsSomePuts, shown_answer, usage_outcome, refused_outcome}
 use Rattle.flash_cli.specs.Choose.{choose_answer}
+use Rattle.flash_cli.specs.TableMake.{table_make_answer}
+use Rattle.flash_cli.specs.TableShow.{table_show_answer}
 
 -- what each command reads, and what it comes to: its answer, or the first refusal
 abbrev pub reading_of : Command → Reading (Result Answer Refusal)
 reading_of (Choose flash) = Asks flash (λ bytes. Ended (choose_answer bytes))
+reading_of (TableMake csv out) = Asks csv (λ bytes. Ended (table_make_answer out bytes))
+reading_of (TableShow file) = Asks file (λ bytes. Ended (table_show_answer bytes))
 
 -- the outcome of a command that came to this
 abbrev pub outcome_of : Result (Result Answer Refusal) Absence → Outcome

@@ -3,11 +3,11 @@ use Rattle.std.specs.Prelude.{ℕ, ◌==◌, Bool, List, ◌++◌, if◌then◌e
 use Rattle.pipe_ends.specs.Hex.{hex_text}
 use Rattle.partition_table.specs.declared.app.App.{App}
 use Rattle.partition_table.specs.declared.app.App.TheVariants.{Ota, Factory, Test}
-use Rattle.flash_cli.specs.TableText.{table_text}
+use Rattle.flash_cli.specs.TableText.{table_bad_text, csv_text}
 use Rattle.otadata.specs.declared.entry.Entry.{Entry}
 use Rattle.otadata.specs.Choice.{is_valid}
 use Rattle.flash_cli.specs.declared.refusal.Refusal.{Refusal}
-use Rattle.flash_cli.specs.declared.refusal.Refusal.TheVariants.{Absent, FlashSize, Table}
+use Rattle.flash_cli.specs.declared.refusal.Refusal.TheVariants.{Absent, FlashSize, TableLength, Table, Csv}
 use Rattle.flash_cli.specs.declared.choice.Choice.{Choice}
 use Rattle.flash_cli.specs.Command.{rows, joined}
 
@@ -58,7 +58,9 @@ choice_text choice = entry_line 0 choice.first ++ entry_line 1 choice.second ++ 
 abbrev pub refusal_text : List ℕ → Refusal → List ℕ
 refusal_text name (Absent file) = codes "absent " ++ name
 refusal_text name (FlashSize size) = codes "flash size " ++ decimal size
-refusal_text name (Table why) = table_text why
+refusal_text name (TableLength length) = codes "table length " ++ decimal length
+refusal_text name (Table why) = table_bad_text why
+refusal_text name (Csv number why) = csv_text number why
 
 -- the line of a refusal
 unfoldable pub refusal_line : List ℕ → Refusal → List ℕ

@@ -9,6 +9,10 @@ ghost use Rattle.flash_cli.specs.Command.{rows, row_of, shown_row, shown, fits, 
 pub(crate) enum Kind {
     /// `choose FLASH`
     Choose,
+    /// `table-make CSV OUT`
+    TableMake,
+    /// `table-show FILE`
+    TableShow,
 }
 
 /// A row of the table of commands: the word, how many names stand after it, and whether it starts
@@ -22,18 +26,32 @@ pub(crate) struct Row {
 }
 
 /// How many commands there are.
-const COMMANDS: usize = 1;
+const COMMANDS: usize = 3;
 
 /// The table of commands, in the order of the usage line.
 pub(crate) fn table() -> [Row; COMMANDS]
     ensures exact { map shown_row result ≡ rows }
 {
-    [Row {
-        kind: Kind::Choose,
-        word: "choose",
-        names: 1,
-        cores: false,
-    }]
+    [
+        Row {
+            kind: Kind::Choose,
+            word: "choose",
+            names: 1,
+            cores: false,
+        },
+        Row {
+            kind: Kind::TableMake,
+            word: "table-make",
+            names: 2,
+            cores: false,
+        },
+        Row {
+            kind: Kind::TableShow,
+            word: "table-show",
+            names: 1,
+            cores: false,
+        },
+    ]
 }
 
 /// A command, with the names of its files as they stand in the words.
@@ -41,6 +59,10 @@ pub(crate) fn table() -> [Row; COMMANDS]
 pub(crate) enum Command<'a> {
     /// Print the entries of a flash's OTA data, and the application that they name.
     Choose { flash: &'a str },
+    /// Put the partition table that a source means.
+    TableMake { csv: &'a str, out: &'a str },
+    /// Print the partitions of a table file.
+    TableShow { file: &'a str },
 }
 
 impl<'a> Command<'a> {
@@ -68,6 +90,15 @@ impl<'a> Command<'a> {
                 flash: flash.as_str(),
             }),
             (Kind::Choose, _) => None,
+            (Kind::TableMake, [csv, out]) => Some(Command::TableMake {
+                csv: csv.as_str(),
+                out: out.as_str(),
+            }),
+            (Kind::TableMake, _) => None,
+            (Kind::TableShow, [file]) => Some(Command::TableShow {
+                file: file.as_str(),
+            }),
+            (Kind::TableShow, _) => None,
         }
     }
 }

@@ -10,6 +10,8 @@ mod files;
 mod laws;
 mod refusal;
 mod status;
+mod table_make;
+mod table_show;
 mod table_text;
 #[cfg(test)]
 mod tests;

@@ -1,13 +1,13 @@
 //! The lines that the program prints.
 
 ghost use Rattle.std.specs.Prelude.{◌≡◌, ◌≤◌, ◌++◌, OnOk, codes, map, option_copied, decimal, List, ℕ};
-ghost use Rattle.flash_cli.specs.Text.{state_name, state_text, app_text, verdict_text, entry_line, names_line, choice_text, refusal_line, usage_line};
+ghost use Rattle.flash_cli.specs.Text.{state_name, state_text, app_text, verdict_text, entry_line, names_line, choice_text, refusal_line, refusal_text, usage_line};
 ghost use Rattle.flash_cli.specs.Command.{joined, shown_row};
 
 use crate::choice::Choice;
 use crate::command::{Row, table};
 use crate::refusal::Refusal;
-use crate::table_text::put_table_bad;
+use crate::table_text::{put_csv, put_table_bad};
 use otadata::{Entry, state};
 use partition_table::App;
 use pipe_ends::{Memory, put_hex, put_number};
@@ -103,18 +103,32 @@ pub(crate) fn put_refusal(out: &mut Vec<u8>, name: &str, why: Refusal) -> Result
     ensures ok { OnOk result (out.new.items ≡ out.old.items ++ refusal_line name.now why) }
 {
     put_text(out, "refused: ")?;
+    put_reason(out, name, why)?;
+    put_text(out, "\n")
+}
+
+/// Appends words and a number.
+pub(crate) fn put_numbered(out: &mut Vec<u8>, text: &str, number: u64) -> Result<(), Memory>
+    ensures ok { OnOk result (out.new.items ≡ out.old.items ++ (text.now ++ decimal number)) }
+{
+    put_text(out, text)?;
+    put_number(out, number)
+}
+
+/// Appends what a refusal says. The name is that of the absent file.
+fn put_reason(out: &mut Vec<u8>, name: &str, why: Refusal) -> Result<(), Memory>
+    ensures ok { OnOk result (out.new.items ≡ out.old.items ++ refusal_text name.now why) }
+{
     match why {
         Refusal::Absent { .. } => {
             put_text(out, "absent ")?;
-            put_text(out, name)?;
+            put_text(out, name)
         }
-        Refusal::FlashSize { size } => {
-            put_text(out, "flash size ")?;
-            put_number(out, size)?;
-        }
-        Refusal::Table(why) => put_table_bad(out, why)?,
+        Refusal::FlashSize { size } => put_numbered(out, "flash size ", size),
+        Refusal::TableLength { length } => put_numbered(out, "table length ", length),
+        Refusal::Table(why) => put_table_bad(out, why),
+        Refusal::Csv { number, why } => put_csv(out, number, why),
     }
-    put_text(out, "\n")
 }
 
 /// Appends the line that says how the program is called: the words of the table of commands.

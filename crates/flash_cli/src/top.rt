@@ -14,6 +14,8 @@ use crate::error::{CommandError, Failure};
 use crate::files::put_files;
 use crate::refusal::Refusal;
 use crate::status::Status;
+use crate::table_make::run_table_make;
+use crate::table_show::run_table_show;
 use crate::text::{put_refusal, put_usage};
 use pipe_ends::{PushFault, Sink, Store};
 use std::alloc::Global;
@@ -128,5 +130,7 @@ fn carry_out<S: Store>(
 {
     match command {
         Command::Choose { flash } => run_choose(alloc, store, flash),
+        Command::TableMake { csv, out } => run_table_make(alloc, store, csv, out),
+        Command::TableShow { file } => run_table_show(alloc, store, file),
     }
 }
