@@ -1,10 +1,9 @@
 -- What a source means, by its records and the rules on its rows.
-use Rattle.std.proofs.Common.{◌≡◌, ℕ, List, [], Option, Some, None, Result, Ok, Err, refl, sym, ap, ◌∙◌}
+use Rattle.std.proofs.Common.{◌≡◌, ℕ, List, [], Option, Some, None, Ok, Err, sym, ap, ◌∙◌}
 use Rattle.partition_table.specs.declared.row.Row.{Row}
 use Rattle.partition_table.specs.declared.bad.TableBad.{TableBad}
 use Rattle.partition_table.specs.Rules.{rows_bad}
 use Rattle.partition_table.specs.Table.{ruled, unless}
-use Rattle.part_csv.specs.declared.refusal.CsvNo.{CsvNo}
 use Rattle.part_csv.specs.declared.refusal.CsvNo.TheVariants.{Rules}
 use Rattle.part_csv.specs.Source.{obeying, rows_from, source_records, table_of_source}
 

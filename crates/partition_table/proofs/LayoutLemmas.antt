@@ -1,13 +1,12 @@
 -- The parts of a layout lie in order where the rows obey the rules.
-use Rattle.std.proofs.Common.{◌≡◌, ◌≢◌, ℕ, zero, suc, ◌+◌, ◌*◌, ◌%◌, ◌<◌, ◌≤◌, List, [], ◌∷◌, Bool, true, false, length, Option, Some, None, Result, Ok, Err, IfOk, IfSome, refl, sym, ap, subst, ◌∙◌, ◌⊎◌, inl, inr, arith, rules}
+use Rattle.std.proofs.Common.{◌≡◌, ◌≢◌, ℕ, zero, suc, ◌+◌, ◌%◌, ◌<◌, ◌≤◌, List, [], ◌∷◌, Bool, true, false, length, Option, Some, None, Ok, Err, refl, sym, ap, subst, ◌∙◌, ◌⊎◌, inl, inr, arith}
 use Rattle.std.specs.Prelude.{◌==◌, ⊤, if◌then◌else◌, not}
-use Rattle.std.specs.List.{AllByRecursion, find, list_any, slice_get}
+use Rattle.std.specs.List.{AllByRecursion, find, slice_get}
 use Rattle.std.proofs.lemmas.Bool.Decides.{nat_tests}
 use Rattle.partition_table.specs.declared.app.App.{App}
 use Rattle.partition_table.specs.declared.app.App.TheVariants.{Ota, Factory, Test}
 use Rattle.partition_table.specs.declared.row.Row.{Row}
-use Rattle.partition_table.specs.declared.bad.TableBad.{TableBad}
-use Rattle.partition_table.specs.declared.bad.TableBad.TheVariants.{NoFactory, NoOtadata, OtadataFlags, OtadataSize, SlotGap}
+use Rattle.partition_table.specs.declared.bad.TableBad.TheVariants.{OtadataFlags, OtadataSize, SlotGap}
 use Rattle.partition_table.specs.Rules.{AllPairs, FitsFlash, Stands, alignment_of, is_aligned, is_within, ranges_meet}
 use Rattle.partition_table.specs.Layout.{Apart, IsPlaced, Places, is_gap, is_of, layout_of, row_for, row_with, slots_from, with_factory, with_otadata, with_slot, with_slots}
 

@@ -1,13 +1,12 @@
 -- That no rule is broken says what the rows obey, and a broken rule on pairs is told of the first pair.
-use Rattle.std.proofs.Common.{◌≡◌, ◌≢◌, ◌↔◌, ℕ, zero, suc, ◌+◌, ◌<◌, ◌≤◌, Bool, true, false, List, [], ◌∷◌, Option, Some, None, refl, sym, ap, ◌∙◌, ◌⊎◌, inl, inr, arith, rules}
+use Rattle.std.proofs.Common.{◌≡◌, ℕ, ◌+◌, Bool, true, false, List, [], ◌∷◌, Option, Some, None, refl}
 use Rattle.std.specs.Prelude.{if◌then◌else◌, not}
-use Rattle.std.specs.List.{AllByRecursion, slice_get}
+use Rattle.std.specs.List.{AllByRecursion}
 use Rattle.std.specs.Option.{option_map, option_or}
-use Rattle.std.proofs.lemmas.Bool.{cases_Bool}
 use Rattle.partition_table.specs.declared.row.Row.{Row}
 use Rattle.partition_table.specs.declared.rules.PairRule.TheVariants as pair
 use Rattle.partition_table.specs.declared.bad.TableBad.TheVariants.{Align, Range}
-use Rattle.partition_table.specs.First.{IsFirstPair, MeetAt, first_at, first_pair, first_place}
+use Rattle.partition_table.specs.First.{first_at, first_pair, first_place}
 use Rattle.partition_table.specs.Rules.{AllPairs, FitsFlash, Stands, are_two_of, is_aligned, is_within, meets_of, ranges_meet, row_bad, rows_bad}
 
 -- ---- an answer of several

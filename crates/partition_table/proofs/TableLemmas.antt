@@ -1,21 +1,18 @@
 -- The bytes of a table are those of its rows, and its rows are those of its bytes.
-use Rattle.std.proofs.Common.{◌≡◌, ◌≢◌, ℕ, zero, suc, ◌+◌, ◌-◌, ◌*◌, ◌<◌, ◌≤◌, List, [], ◌∷◌, ◌++◌, Bool, true, false, length, take, drop, get_or, replicate, Option, Some, None, Result, Ok, Err, refl, sym, ap, subst, ◌∙◌, add-one, ◌⊎◌, inl, inr, arith, rules}
+use Rattle.std.proofs.Common.{◌≡◌, ℕ, zero, suc, ◌+◌, ◌-◌, ◌*◌, ◌<◌, ◌≤◌, List, [], ◌∷◌, ◌++◌, Bool, true, false, length, take, drop, replicate, Option, Some, None, Ok, refl, sym, ap, subst, ◌∙◌, add-one, arith}
 use Rattle.std.specs.Prelude.{◌==◌, ⊤, if◌then◌else◌, not}
-use Rattle.std.specs.Bool.{Decides}
 use Rattle.std.specs.List.{AllByRecursion}
-use Rattle.std.specs.Option.{option_or}
 use Rattle.std.specs.Str.{bytes_eq}
-use Rattle.std.proofs.Math.Seq.{take-add, take-append_seam, drop-append_seam, take-append-add, drop-append-add}
-use Rattle.std.proofs.lemmas.Bool.{cases_Bool}
+use Rattle.std.proofs.Math.Seq.{take-add}
 use Rattle.std.proofs.lemmas.Bool.Decides.{nat_tests}
-use Rattle.std.proofs.lemmas.List.{append_assoc, drop-drop, drop_at, length-append, length-drop, length-replicate, length-take-le, replicate-append-replicate, take-append-drop, take_all, take_at}
+use Rattle.std.proofs.lemmas.List.{append_assoc, drop-drop, drop_at, length-append, length-drop, length-replicate, replicate-append-replicate, take-append-drop, take_at}
 use Rattle.std.proofs.lemmas.Slice.Eq.{bytes_eq-Decides}
 use Rattle.md5.specs.Md5.{md5}
 use Rattle.md5.proofs.StandardFacts.{length-md5}
 use Rattle.partition_table.specs.declared.row.Row.{Row}
 use Rattle.partition_table.specs.declared.bad.TableBad.{TableBad}
 use Rattle.partition_table.specs.declared.bad.TableBad.TheVariants.{Magic, Md5, NoEnd}
-use Rattle.partition_table.specs.Row.{IsSized, is_partition, row_of, row_text, rows_text}
+use Rattle.partition_table.specs.Row.{IsSized, is_partition, row_text, rows_text}
 use Rattle.partition_table.specs.Rules.{FitsFlash, rows_bad}
 use Rattle.partition_table.specs.Table.{TableOf, begins_digest, digest_row, end_bad, end_row, first_rows, row_at, rows_in, table_bad, table_of, table_text, unless}
 use Rattle.partition_table.proofs.RowLemmas.{AreBytes, bytes-drop, is_partition-text, length-row_text, length-rows_text, row_of-text, row_text-of, sized-of}

@@ -1,4 +1,4 @@
-use Rattle.std.proofs.Common.{◌≡◌, ◌<◌, ◌∙◌, length, ap, sym, arith}
+use Rattle.std.proofs.Common.{◌<◌, ◌∙◌, length, ap, sym, arith}
 use Rattle.csv.specs.Records.{fields_of}
 use Rattle.part_csv.proofs.WordLemmas.{next_column}
 use Rattle.part_csv.proofs.record.has_more.Goals as goal

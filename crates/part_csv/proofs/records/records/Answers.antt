@@ -1,4 +1,4 @@
-use Rattle.std.proofs.Common.{Bor, List, ℕ, ◌≡◌, ◌∙◌, ◌+◌, ◌<◌, length, sym, refl, rules, inl, true, map, Some, ◌∷◌, [], arith}
+use Rattle.std.proofs.Common.{Bor, List, ℕ, ◌≡◌, ◌∙◌, sym, refl, rules, inl, true, map, Some, ◌∷◌, [], arith}
 use Rattle.std.specs.Result.{is_ok}
 use Rattle.std.proofs.lemmas.List.{map-append}
 use Rattle.csv.specs.Reading.{Reached, strip_bom}

@@ -1,4 +1,4 @@
-use Rattle.std.proofs.Common.{◌≡◌, ◌∙◌, map, ap, sym}
+use Rattle.std.proofs.Common.{◌∙◌, map, sym}
 use Rattle.csv.specs.Records.{fields_of}
 use Rattle.part_csv.proofs.SourceLemmas.{breaks, means}
 use Rattle.part_csv.proofs.source.read_csv.Goals as goal

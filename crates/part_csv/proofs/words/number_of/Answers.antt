@@ -1,7 +1,7 @@
-use Rattle.std.proofs.Common.{◌≡◌, ◌∙◌, ◌*◌, ◌≤◌, ap, arith}
+use Rattle.std.proofs.Common.{◌∙◌, ◌*◌, ◌≤◌, ap, arith}
 use Rattle.std.specs.Option.{option_map}
 use Rattle.pipe_ends.specs.Number.{within}
-use Rattle.part_csv.specs.Words.{digits_value, front_of, last_unit, number_of}
+use Rattle.part_csv.specs.Words.{digits_value, front_of, number_of}
 use Rattle.part_csv.proofs.WordLemmas.{bounded}
 use Rattle.part_csv.proofs.words.number_of.Goals as goal
 

@@ -1,4 +1,4 @@
-use Rattle.std.proofs.Common.{◌≡◌, arith}
+use Rattle.std.proofs.Common.{arith}
 use Rattle.part_csv.proofs.WordLemmas.{next_byte}
 use Rattle.part_csv.proofs.words.words_flags.Goals as goal
 

@@ -1,6 +1,6 @@
-use Rattle.std.proofs.Common.{◌≡◌, ◌∙◌, ◌-◌, ◌++◌, sym, ap, arith}
+use Rattle.std.proofs.Common.{◌≡◌, ◌∙◌, ◌-◌, sym, arith}
 use Rattle.std.proofs.lemmas.List.{append-nil}
-use Rattle.partition_table.specs.Layout.{slots_from, with_slot}
+use Rattle.partition_table.specs.Layout.{slots_from}
 use Rattle.partition_table.proofs.Steps.{moved, slots-step}
 use Rattle.partition_table.proofs.layout.slots_of.Goals as goal
 

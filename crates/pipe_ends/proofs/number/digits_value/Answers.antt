@@ -1,4 +1,4 @@
-use Rattle.std.proofs.Common.{◌≡◌, ◌≤◌, ◌<◌, ◌^◌, ◌∙◌, sym, arith}
+use Rattle.std.proofs.Common.{◌≤◌, ◌<◌, ◌^◌, ◌∙◌, sym, arith}
 use Rattle.pipe_ends.proofs.NumberLemmas.{at_end, ends, goes_on}
 use Rattle.pipe_ends.proofs.number.digits_value.Goals as goal
 

@@ -1,4 +1,4 @@
-use Rattle.std.proofs.Common.{◌≡◌, ◌∙◌, ℕ, List, sym, Ok, Err, Result, IfOk}
+use Rattle.std.proofs.Common.{◌≡◌, ℕ, List, sym, Ok, Err, Result, IfOk}
 use Rattle.partition_table.specs.declared.row.Row.{Row}
 use Rattle.partition_table.specs.declared.bad.TableBad.{TableBad}
 use Rattle.partition_table.specs.Rules.{FitsFlash}

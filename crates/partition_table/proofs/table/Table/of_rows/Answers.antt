@@ -1,4 +1,4 @@
-use Rattle.std.proofs.Common.{◌≡◌, ◌∙◌, sym}
+use Rattle.std.proofs.Common.{◌∙◌, sym}
 use Rattle.partition_table.proofs.RuleLemmas.{fits}
 use Rattle.partition_table.proofs.table.Table.of_rows.Goals as goal
 

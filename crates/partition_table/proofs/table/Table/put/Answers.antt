@@ -1,7 +1,6 @@
-use Rattle.std.proofs.Common.{◌≡◌, ◌≤◌, ◌∙◌, length, sym, subst, ap, arith}
+use Rattle.std.proofs.Common.{◌≤◌, length, subst}
 use Rattle.std.specs.List.{AllByRecursion}
 use Rattle.partition_table.specs.Row.{IsSized}
-use Rattle.partition_table.specs.Table.{TableOf}
 use Rattle.partition_table.proofs.TableLemmas.{table_text-means}
 use Rattle.partition_table.proofs.table.Table.put.Goals as goal
 
