@@ -19,7 +19,8 @@ loop-k-preserved c =
     let found = sym c.row_with.ensures.exact ∙ c.in-Some.is in
     let whole = rw (step, found) at c.loop-k.invariant.slots in
     record {
-      slots = moved c.loop-k.slots.items c.push.new.self.items c.in-Some.row _ _ c.push.ensures.items whole;
+      slots = moved c.loop-k.slots.items c.push.new.self.items c.in-Some.row _ _
+          c.push.ensures.items whole;
       count = omega arith;
     }
 
