@@ -44,6 +44,7 @@ matches_or_not e = at (cases_Bool (matches e))
     at (inr told) = inr (λ fact. let is = (matching e).1 fact in grind (arith, nat_tests))
 
 -- the first entry is active, or the second, or none is
-pub active_cases : (e f : Entry) → (active_of e f ≡ Some 0) ⊎ (active_of e f ≡ Some 1) ⊎ (active_of e f ≡ None)
+pub active_cases : (e f : Entry) → (active_of e f ≡ Some 0) ⊎ (active_of e f ≡ Some 1)
+    ⊎ (active_of e f ≡ None)
 unfolding active_of
 active_cases e f = grind (arith, nat_tests)

@@ -1,5 +1,5 @@
 -- What a table's source means.
-use Rattle.std.specs.Prelude.{ℕ, zero, suc, ◌+◌, ◌-◌, ◌*◌, ◌/◌, ◌%◌, Bool, true, false, ◌&&◌, ◌||◌, not, ◌==◌, nat_le, List, [], ◌∷◌, ◌++◌, length, drop, slice_index, Option, Some, None, Result, Ok, Err, if◌then◌else◌, ⊤, ◌≡◌}
+use Rattle.std.specs.Prelude.{ℕ, zero, suc, ◌+◌, ◌-◌, ◌*◌, ◌/◌, Bool, true, false, ◌&&◌, ◌||◌, not, ◌==◌, List, [], ◌∷◌, ◌++◌, length, slice_index, Option, Some, None, Result, Ok, Err, if◌then◌else◌, ⊤, ◌≡◌}
 use Rattle.std.specs.List.{list_any}
 use Rattle.std.specs.Option.{unwrap_or}
 use Rattle.std.specs.Str.{bytes_eq}
@@ -45,7 +45,8 @@ column fields i = trim (unwrap_or (field_at fields i) [])
 -- whether a record gives no row: it is a comment, or one empty field
 unfoldable pub is_skipped : List (List ℕ) → Bool
 is_skipped fields =
-    (slice_index (column fields 0) 0 == 35) || ((length fields == 1) && (length (column fields 0) == 0))
+    (slice_index (column fields 0) 0 == 35)
+    || ((length fields == 1) && (length (column fields 0) == 0))
 
 -- whether one of n columns from this number on is not empty
 abbrev pub has_column : ℕ → ℕ → List (List ℕ) → Bool
@@ -68,7 +69,8 @@ raised unit n = (n + (unit - 1)) / unit * unit
 -- the offset of a partition of this type behind these rows
 unfoldable pub offset_of : ℕ → List Row → List ℕ → Option ℕ
 offset_of kind rows text =
-    if length text == 0 then within 0xFFFFFFFF (Some (raised (alignment_of kind) (end_from 0x9000 rows)))
+    if length text == 0
+    then within 0xFFFFFFFF (Some (raised (alignment_of kind) (end_from 0x9000 rows)))
     else number_of text
 
 -- whether a row has this label
@@ -92,7 +94,14 @@ row_of rows fields =
     need (flags_of (column fields 5)) why.Flag (λ flags.
     if has_label label rows then Err why.SameName
     else (if length rows == 94 then Err why.TooManyRows
-    else Ok (record { kind = kind; subtype = subtype; offset = offset; size = size; label = label; flags = flags }))))))))
+    else Ok (record {
+      kind = kind;
+      subtype = subtype;
+      offset = offset;
+      size = size;
+      label = label;
+      flags = flags;
+    }))))))))
 
 -- ---- all records
 
@@ -103,7 +112,8 @@ joined number rows (Err reason) = Err (no_table.At number reason)
 
 -- these rows and that of the record of this number
 unfoldable pub after : ℕ → List Row → List (List ℕ) → Result (List Row) CsvNo
-after number rows fields = if is_skipped fields then Ok rows else joined number rows (row_of rows fields)
+after number rows fields =
+    if is_skipped fields then Ok rows else joined number rows (row_of rows fields)
 
 -- what follows from an answer
 abbrev pub continued : {A B E : Type 0} → Result A E → (A → Result B E) → Result B E

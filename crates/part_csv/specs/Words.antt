@@ -1,5 +1,5 @@
 -- What the columns of a record spell.
-use Rattle.std.specs.Prelude.{ℕ, ◌+◌, ◌-◌, ◌*◌, Bool, ◌&&◌, ◌||◌, not, ◌==◌, nat_le, nat_lt, List, [], ◌∷◌, ◌++◌, length, take, drop, codes, slice_index, Option, Some, None, if◌then◌else◌, bit_or}
+use Rattle.std.specs.Prelude.{ℕ, ◌-◌, ◌*◌, Bool, ◌&&◌, ◌||◌, not, ◌==◌, nat_le, nat_lt, List, [], ◌∷◌, ◌++◌, length, take, drop, codes, slice_index, Option, Some, None, if◌then◌else◌, bit_or}
 use Rattle.std.specs.List.{list_any}
 use Rattle.std.specs.Option.{option_and_then, option_map}
 use Rattle.std.specs.Str.{bytes_eq}
@@ -21,7 +21,8 @@ unit_of c =
 -- the value of decimal digits, or of `0x` or `0X` and hex digits
 unfoldable pub digits_value : List ℕ → Option ℕ
 digits_value text =
-    if bytes_eq (take 2 text) (codes "0x") || bytes_eq (take 2 text) (codes "0X") then value_of 16 (drop 2 text)
+    if bytes_eq (take 2 text) (codes "0x") || bytes_eq (take 2 text) (codes "0X")
+    then value_of 16 (drop 2 text)
     else value_of 10 text
 
 -- what the last letter of a text multiplies by
@@ -34,7 +35,8 @@ front_of text = if last_unit text == 1 then text else take (length text - 1) tex
 
 -- the number that a text spells: digits, and at most one letter behind them
 unfoldable pub number_of : List ℕ → Option ℕ
-number_of text = within 0xFFFFFFFF (option_map (λ n. n * last_unit text) (digits_value (front_of text)))
+number_of text =
+    within 0xFFFFFFFF (option_map (λ n. n * last_unit text) (digits_value (front_of text)))
 
 -- a number of a type or subtype
 unfoldable pub small_of : List ℕ → Option ℕ
@@ -56,7 +58,9 @@ label_of text =
 
 -- the type of a partition
 unfoldable pub kind_of : List ℕ → Option ℕ
-kind_of text = if is (codes "app") text then Some 0 else (if is (codes "data") text then Some 1 else small_of text)
+kind_of text =
+    if is (codes "app") text then Some 0
+    else (if is (codes "data") text then Some 1 else small_of text)
 
 -- ---- the subtype
 
@@ -64,8 +68,10 @@ kind_of text = if is (codes "app") text then Some 0 else (if is (codes "data") t
 unfoldable pub late_slot_of : List ℕ → Option ℕ
 late_slot_of text =
     if is (codes "ota_10") text then Some 0x1A else (if is (codes "ota_11") text then Some 0x1B
-    else (if is (codes "ota_12") text then Some 0x1C else (if is (codes "ota_13") text then Some 0x1D
-    else (if is (codes "ota_14") text then Some 0x1E else (if is (codes "ota_15") text then Some 0x1F else None)))))
+    else (if is (codes "ota_12") text then Some 0x1C
+    else (if is (codes "ota_13") text then Some 0x1D
+    else (if is (codes "ota_14") text then Some 0x1E
+    else (if is (codes "ota_15") text then Some 0x1F else None)))))
 
 -- the number of an update slot by its name
 unfoldable pub slot_of : List ℕ → Option ℕ
@@ -80,7 +86,8 @@ slot_of text =
 -- the subtype of an application by its name
 unfoldable pub app_subtype : List ℕ → Option ℕ
 app_subtype text =
-    if is (codes "factory") text then Some 0x00 else (if is (codes "test") text then Some 0x20 else slot_of text)
+    if is (codes "factory") text then Some 0x00
+    else (if is (codes "test") text then Some 0x20 else slot_of text)
 
 -- the subtype of data by its name; no name is the undefined one
 unfoldable pub data_subtype : List ℕ → Option ℕ
@@ -106,17 +113,21 @@ subtype_of kind text =
 
 -- the flag of a word
 unfoldable pub flag_of : List ℕ → Option ℕ
-flag_of word = if is (codes "encrypted") word then Some 1 else (if is (codes "readonly") word then Some 2 else None)
+flag_of word =
+    if is (codes "encrypted") word then Some 1
+    else (if is (codes "readonly") word then Some 2 else None)
 
 -- the words of a text that colons separate, the first of which begins with these bytes
 abbrev pub words_from : List ℕ → List ℕ → List (List ℕ)
 words_from word [] = word ∷ []
-words_from word (c ∷ cs) = if c == 58 then word ∷ words_from [] cs else words_from (word ++ c ∷ []) cs
+words_from word (c ∷ cs) =
+    if c == 58 then word ∷ words_from [] cs else words_from (word ++ c ∷ []) cs
 
 -- these flags and those of words
 abbrev pub flags_or : ℕ → List (List ℕ) → Option ℕ
 flags_or flags [] = Some flags
-flags_or flags (word ∷ words) = option_and_then (λ flag. flags_or (bit_or flags flag) words) (flag_of word)
+flags_or flags (word ∷ words) =
+    option_and_then (λ flag. flags_or (bit_or flags flag) words) (flag_of word)
 
 -- the flags of a partition
 unfoldable pub flags_of : List ℕ → Option ℕ

@@ -10,7 +10,7 @@ ghost use Rattle.part_csv.specs.Source.{source_config, source_records};
 use csv::{ByteRecord, Error, Reader, ReaderBuilder, Trim};
 use std::alloc::Global;
 
-/// The records could not be read, which a text in memory gives no other reason for than a lack of it.
+/// The records could not be read: a text in memory gives no other reason than a lack of memory.
 #[derive(Clone, Copy, Debug, PartialEq, Eq)]
 pub(crate) struct Stopped;
 
@@ -40,7 +40,8 @@ fn give_up(error: &Error) -> Stopped
 
 /// All records of a source.
 pub(crate) fn records(alloc: Global, bytes: &[u8]) -> Result<Vec<ByteRecord>, Stopped>
-    ensures exact { IfOk result (λ records. map fields_of records.items ≡ source_records bytes.now) }
+    ensures exact { IfOk result
+        (λ records. map fields_of records.items ≡ source_records bytes.now) }
 {
     let reader = source_reader(alloc, bytes);
     let mut records = Vec::new(alloc);

@@ -13,7 +13,8 @@ use csv::ByteRecord;
 use partition_table::{Row, Table};
 use std::alloc::Global;
 
-/// The table that a source means in a flash of `flash` bytes, or the first reason why it means none.
+/// The table that a source means in a flash of `flash` bytes, or the first reason why it means
+/// none.
 #[tactic(auto, unfolding(crate::specs::Source::table_of_source))]
 pub fn read_csv(alloc: Global, bytes: &[u8], flash: u32) -> Result<Table, CsvNo>
     ensures exact { IsOrMemory result (table_of_source bytes.now flash) }
@@ -47,7 +48,8 @@ fn rows_of(records: &[ByteRecord]) -> Result<ArrayVec<Row, 94>, CsvNo>
 #[tactic(auto, unfolding(crate::specs::Source::after))]
 fn add(rows: &mut ArrayVec<Row, 94>, number: u64, line: &ByteRecord) -> Result<(), CsvNo>
     requires few { length rows.old.items ≤ 94 }
-    ensures ok { OnOk result (after number rows.old.items (fields_of line.now) ≡ Ok rows.new.items) }
+    ensures ok { OnOk result
+        (after number rows.old.items (fields_of line.now) ≡ Ok rows.new.items) }
     ensures err { IfErr result (λ no. after number rows.old.items (fields_of line.now) ≡ Err no) }
     ensures few { length rows.new.items ≤ 94 }
 {

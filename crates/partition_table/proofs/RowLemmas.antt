@@ -1,5 +1,5 @@
 -- A row and its 32 bytes say the same.
-use Rattle.std.proofs.Common.{◌≡◌, ℕ, suc, ◌+◌, ◌*◌, ◌/◌, ◌%◌, ◌<◌, ◌≤◌, List, [], ◌∷◌, ◌++◌, Bool, true, length, take, drop, get_or, refl, sym, ap, ◌∙◌, ◌⊎◌, inl, inr, arith}
+use Rattle.std.proofs.Common.{◌≡◌, ℕ, ◌+◌, ◌*◌, ◌/◌, ◌%◌, ◌<◌, ◌≤◌, List, [], ◌∷◌, ◌++◌, true, length, take, drop, get_or, refl, sym, ap, ◌∙◌, ◌⊎◌, inl, inr, arith}
 use Rattle.std.specs.List.{All, AllByRecursion}
 use Rattle.std.proofs.Math.Seq.{take-add}
 use Rattle.std.proofs.lemmas.Bool.{cases_lt}
@@ -41,12 +41,14 @@ four_bytes a b c d ha hb hc hd =
     rw (e0, e1, e2, e3) refl
 
 -- the first four bytes of a list
-little_bytes-number : (bytes : List ℕ) → 4 ≤ length bytes → AreBytes bytes → little_bytes 4 (little_number 4 bytes) ≡ take 4 bytes
+little_bytes-number : (bytes : List ℕ) → 4 ≤ length bytes → AreBytes bytes
+    → little_bytes 4 (little_number 4 bytes) ≡ take 4 bytes
 little_bytes-number [] long are = absurd (omega arith)
 little_bytes-number (a ∷ []) long are = absurd (omega arith)
 little_bytes-number (a ∷ b ∷ []) long are = absurd (omega arith)
 little_bytes-number (a ∷ b ∷ c ∷ []) long are = absurd (omega arith)
-little_bytes-number (a ∷ b ∷ c ∷ d ∷ rest) long are = four_bytes a b c d (are.at 0) (are.at 1) (are.at 2) (are.at 3)
+little_bytes-number (a ∷ b ∷ c ∷ d ∷ rest) long are = four_bytes a b c d (are.at 0) (are.at 1)
+    (are.at 2) (are.at 3)
 
 -- ---- one row
 
@@ -66,8 +68,17 @@ is_partition-text row rest = refl
 
 -- a row is its six fields
 same_row : (row : Row) (kind subtype offset size : ℕ) (label : List ℕ) (flags : ℕ)
-    → kind ≡ row.kind → subtype ≡ row.subtype → offset ≡ row.offset → size ≡ row.size → label ≡ row.label → flags ≡ row.flags
-    → ◌≡◌ {A = Row} (record { kind = kind; subtype = subtype; offset = offset; size = size; label = label; flags = flags }) row
+    → kind ≡ row.kind → subtype ≡ row.subtype → offset ≡ row.offset → size ≡ row.size
+    → label ≡ row.label → flags ≡ row.flags
+    → ◌≡◌ {A = Row}
+    (record {
+      kind = kind;
+      subtype = subtype;
+      offset = offset;
+      size = size;
+      label = label;
+      flags = flags;
+    }) row
 same_row row kind subtype offset size label flags k u o s l f =
     λ i. record { kind = k i; subtype = u i; offset = o i; size = s i; label = l i; flags = f i }
 
@@ -85,9 +96,12 @@ row_of-text row rest sized =
     let behind_h : List ℕ = o ++ behind_o in
     let parts : all ≡ 0xAA ∷ 0x50 ∷ row.kind ∷ row.subtype ∷ behind_h = simp append_assoc in
     let at_4 : drop 4 all ≡ behind_h = ap (drop 4) parts in
-    let at_8 : drop 8 all ≡ behind_o = sym (drop-drop 4 4 all) ∙ ap (drop 4) at_4 ∙ drop_at o behind_o 4 (length-bytes_low_first 0 4 row.offset) in
-    let at_12 : drop 12 all ≡ behind_s = sym (drop-drop 4 8 all) ∙ ap (drop 4) at_8 ∙ drop_at s behind_s 4 (length-bytes_low_first 0 4 row.size) in
-    let at_28 : drop 28 all ≡ behind_l = sym (drop-drop 16 12 all) ∙ ap (drop 16) at_12 ∙ drop_at row.label behind_l 16 sized.label in
+    let at_8 : drop 8 all ≡ behind_o = sym (drop-drop 4 4 all) ∙ ap (drop 4) at_4
+    ∙ drop_at o behind_o 4 (length-bytes_low_first 0 4 row.offset) in
+    let at_12 : drop 12 all ≡ behind_s = sym (drop-drop 4 8 all) ∙ ap (drop 4) at_8
+    ∙ drop_at s behind_s 4 (length-bytes_low_first 0 4 row.size) in
+    let at_28 : drop 28 all ≡ behind_l = sym (drop-drop 16 12 all) ∙ ap (drop 16) at_12
+    ∙ drop_at row.label behind_l 16 sized.label in
     same_row row _ _ _ _ _ _
     refl refl
     (ap (little_number 4) at_4 ∙ little_number-reads_back 4 row.offset behind_o sized.offset)
@@ -109,22 +123,29 @@ head_of (a ∷ b ∷ c ∷ d ∷ rest) long mark =
     rw (first, second) refl
 
 -- the bytes of the row that was read of a partition's bytes are these bytes
-pub row_text-of : (bytes : List ℕ) → 32 ≤ length bytes → AreBytes bytes → is_partition bytes ≡ true → row_text (row_of bytes) ≡ take 32 bytes
+pub row_text-of : (bytes : List ℕ) → 32 ≤ length bytes → AreBytes bytes → is_partition bytes ≡ true
+    → row_text (row_of bytes) ≡ take 32 bytes
 unfolding row_text row_of
 row_text-of bytes long are mark =
-    let part : (n : ℕ) → n + 4 ≤ 32 → little_bytes 4 (little_number 4 (drop n bytes)) ≡ take 4 (drop n bytes) =
-    λ n within. little_bytes-number (drop n bytes) (omega (arith, length-drop n bytes)) (bytes-drop n bytes are) in
+    let part : (n : ℕ) → n + 4 ≤ 32
+    → little_bytes 4 (little_number 4 (drop n bytes)) ≡ take 4 (drop n bytes) =
+    λ n within. little_bytes-number (drop n bytes) (omega (arith, length-drop n bytes))
+    (bytes-drop n bytes are) in
     let h = take 4 bytes in
     let o = take 4 (drop 4 bytes) in
     let s = take 4 (drop 8 bytes) in
     let l = take 16 (drop 12 bytes) in
     let f = take 4 (drop 28 bytes) in
-    let head : 0xAA ∷ 0x50 ∷ get_or bytes 2 0 ∷ get_or bytes 3 0 ∷ [] ≡ h = head_of bytes (omega arith) mark in
+    let head : 0xAA ∷ 0x50 ∷ get_or bytes 2 0 ∷ get_or bytes 3 0 ∷ []
+    ≡ h = head_of bytes (omega arith) mark in
     let fo = part 4 (omega arith) in
     let fs = part 8 (omega arith) in
     let ff = part 28 (omega arith) in
-    ap (λ (x : List ℕ). x ++ little_bytes 4 (little_number 4 (drop 4 bytes)) ++ little_bytes 4 (little_number 4 (drop 8 bytes)) ++ l ++ little_bytes 4 (little_number 4 (drop 28 bytes))) head
-    ∙ ap (λ (x : List ℕ). h ++ x ++ little_bytes 4 (little_number 4 (drop 8 bytes)) ++ l ++ little_bytes 4 (little_number 4 (drop 28 bytes))) fo
+    ap (λ (x : List ℕ). x ++ little_bytes 4 (little_number 4 (drop 4 bytes)) ++ little_bytes 4
+    (little_number 4 (drop 8 bytes)) ++ l ++ little_bytes 4 (little_number 4 (drop 28 bytes)))
+    head
+    ∙ ap (λ (x : List ℕ). h ++ x ++ little_bytes 4 (little_number 4 (drop 8 bytes)) ++ l ++
+    little_bytes 4 (little_number 4 (drop 28 bytes))) fo
     ∙ ap (λ (x : List ℕ). h ++ o ++ x ++ l ++ little_bytes 4 (little_number 4 (drop 28 bytes))) fs
     ∙ ap (λ (x : List ℕ). h ++ o ++ s ++ l ++ x) ff
     ∙ ap (λ (x : List ℕ). x ++ s ++ l ++ f) (sym (take-add 4 4 bytes))
@@ -147,7 +168,8 @@ sized-of bytes long are = record {
 -- ---- several rows
 
 -- rows have 32 bytes each
-pub length-rows_text : (rows : List Row) → AllByRecursion IsSized rows → length (rows_text rows) ≡ 32 * length rows
+pub length-rows_text : (rows : List Row) → AllByRecursion IsSized rows
+    → length (rows_text rows) ≡ 32 * length rows
 length-rows_text [] all = refl
 length-rows_text (row ∷ rows) all =
     let here = length-row_text row all.0.label in

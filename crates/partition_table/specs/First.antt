@@ -1,5 +1,5 @@
 -- The first element, place or pair of a list with a property; places are counted from a given one.
-use Rattle.std.specs.Prelude.{◌≡◌, ◌<◌, ◌+◌, ℕ, suc, Bool, true, List, [], ◌∷◌, Option, Some, None, if◌then◌else◌, slice_get}
+use Rattle.std.specs.Prelude.{◌≡◌, ◌<◌, ◌+◌, ℕ, Bool, true, List, [], ◌∷◌, Option, Some, None, if◌then◌else◌, slice_get}
 use Rattle.std.specs.Option.{option_map, option_or}
 
 -- the first answer that the elements give, each asked with its place
@@ -16,7 +16,8 @@ first_place test i (x ∷ xs) = if test x then Some i else first_place test (i +
 abbrev pub first_pair : {A : Type 0} → (A → A → Bool) → ℕ → List A → Option (ℕ × ℕ)
 first_pair meets i [] = None
 first_pair meets i (x ∷ xs) =
-    option_or (option_map (λ j. (i, j)) (first_place (meets x) (i + 1) xs)) (first_pair meets (i + 1) xs)
+    option_or (option_map (λ j. (i, j)) (first_place (meets x) (i + 1) xs))
+    (first_pair meets (i + 1) xs)
 
 -- the elements at two places, the lower one first, meet
 pub record MeetAt {A : Type 0} (meets : A → A → Bool) (xs : List A) (a b : ℕ) : Type 0 where

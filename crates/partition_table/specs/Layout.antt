@@ -46,7 +46,12 @@ is_gap k rows = (k == 0) || list_any (is_behind k) rows
 unfoldable pub with_slots : ℕ → Row → List Row → List Row → Result Places TableBad
 with_slots otadata factory slots rows =
     if is_gap (length slots) rows then Err (SlotGap (length slots))
-    else Ok (record { otadata = otadata; factory = factory; slots = slots; test = row_with 0 0x20 rows })
+    else Ok (record {
+      otadata = otadata;
+      factory = factory;
+      slots = slots;
+      test = row_with 0 0x20 rows;
+    })
 
 -- the layout with this factory application, or why there is none
 abbrev pub with_factory : ℕ → Option Row → List Row → Result Places TableBad

@@ -26,8 +26,8 @@ is_within flash row = nat_le 0x9000 row.offset && nat_le (row.offset + row.size)
 unfoldable pub ranges_meet : Row → Row → Bool
 ranges_meet a b = nat_lt a.offset (b.offset + b.size) && nat_lt b.offset (a.offset + a.size)
 
--- whether a table has at most one row of this type and subtype: the factory application, each of the
--- sixteen update slots and the test application, and the OTA data
+-- whether a table has at most one row of this type and subtype: the factory application, each of
+-- the sixteen update slots and the test application, and the OTA data
 unfoldable pub is_single : ℕ → ℕ → Bool
 is_single kind subtype =
     ((kind == 0) && ((subtype == 0) || (nat_le 0x10 subtype && nat_le subtype 0x20)))

@@ -64,7 +64,8 @@ end_bad bytes n =
 -- the first rule that bytes break as a table in a flash of this size
 unfoldable pub table_bad : List ℕ → ℕ → Option TableBad
 table_bad bytes flash =
-    option_or (end_bad bytes (rows_in 96 bytes)) (rows_bad flash (first_rows (rows_in 96 bytes) bytes))
+    option_or (end_bad bytes (rows_in 96 bytes))
+    (rows_bad flash (first_rows (rows_in 96 bytes) bytes))
 
 -- a value, unless there is a refusal
 abbrev pub unless : {A E : Type 0} → Option E → A → Result A E

@@ -3,9 +3,9 @@
 /// The first rule that is broken, in this order. Rows are numbered from 0.
 #[derive(Clone, Copy, Debug, PartialEq, Eq)]
 pub enum TableBad {
-    /// A row in front of the digest's begins with no known mark, or the row after it isn't the end row.
+    /// A row before the digest's begins with no known mark, or the row after it isn't the end row.
     Magic { row: u8 },
-    /// The end row comes without the row of the digest, or that row isn't the one of the rows before.
+    /// The end row comes without the row of the digest, or that row isn't that of the rows before.
     Md5 { row: u8 },
     /// The rows end before an end row after the row of the digest.
     NoEnd,

@@ -1,5 +1,5 @@
 -- The value of digits, taken one after the other.
-use Rattle.std.proofs.Common.{◌≡◌, ℕ, suc, ◌+◌, ◌-◌, ◌*◌, ◌^◌, ◌<◌, ◌≤◌, List, [], ◌∷◌, length, get_or, drop, Option, Some, None, Bool, true, false, refl, sym, ap, ◌∙◌, arith, add-one, drop-cons}
+use Rattle.std.proofs.Common.{◌≡◌, ℕ, ◌+◌, ◌*◌, ◌<◌, ◌≤◌, List, [], ◌∷◌, length, get_or, drop, Option, Some, None, Bool, true, false, refl, sym, ap, ◌∙◌, arith, add-one, drop-cons}
 use Rattle.std.proofs.Math.Nat.{mul-le-mul_left}
 use Rattle.std.proofs.lemmas.Bool.Decides.{nat_tests}
 use Rattle.std.proofs.lemmas.List.{drop_all}
@@ -8,11 +8,15 @@ use Rattle.std.specs.Option.{option_and_then, option_map}
 use Rattle.pipe_ends.specs.Number.{digit, value_from, within}
 
 -- a value that is too great stays so, whatever digits follow
-pub large : (most base n : ℕ) (text : List ℕ) → 1 ≤ base → most < n → within most (value_from base n text) ≡ None
+pub large : (most base n : ℕ) (text : List ℕ) → 1 ≤ base → most < n
+    → within most (value_from base n text) ≡ None
 unfolding value_from
-large most base n [] some above = let told : nat_le n most ≡ false = grind (arith, nat_tests) in rw told refl
+large most base n [] some above = let told : nat_le n most
+    ≡ false = grind (arith, nat_tests) in rw told refl
 large most base n (c ∷ cs) some above =
-    by (digit base c) (λ d. large most base (n * base + d) cs some (let more : n * 1 ≤ n * base = mul-le-mul_left n some in omega arith))
+    by (digit base c)
+    (λ d. large most base (n * base + d) cs some
+    (let more : n * 1 ≤ n * base = mul-le-mul_left n some in omega arith))
   where
     by : (o : Option ℕ) → ((d : ℕ) → within most (value_from base (n * base + d) cs) ≡ None)
         → within most (option_and_then (λ d. value_from base (n * base + d) cs) o) ≡ None
@@ -21,7 +25,9 @@ large most base n (c ∷ cs) some above =
 
 -- one digit is read
 pub read_one : (base n i : ℕ) (text : List ℕ) → i < length text
-    → value_from base n (drop i text) ≡ option_and_then (λ d. value_from base (n * base + d) (drop (i + 1) text)) (digit base (get_or text i 0))
+    → value_from base n (drop i text)
+    ≡ option_and_then (λ d. value_from base (n * base + d) (drop (i + 1) text))
+    (digit base (get_or text i 0))
 unfolding value_from
 read_one base n i text below = rw (drop-cons text i 0, add-one) refl
 
@@ -31,10 +37,12 @@ pub goes_on : (most base n m i : ℕ) (text : List ℕ) (whole : Option ℕ) →
     → within most (value_from base n (drop i text)) ≡ whole
     → within most (value_from base m (drop (i + 1) text)) ≡ whole
 goes_on most base n m i text whole below joins is =
-    by (digit base (get_or text i 0)) joins (ap (within most) (sym (read_one base n i text below)) ∙ is)
+    by (digit base (get_or text i 0)) joins (ap (within most) (sym (read_one base n i text below))
+    ∙ is)
   where
     by : (o : Option ℕ) → within most (option_map (λ d. n * base + d) o) ≡ Some m
-        → within most (option_and_then (λ d. value_from base (n * base + d) (drop (i + 1) text)) o) ≡ whole
+        → within most (option_and_then (λ d. value_from base (n * base + d) (drop (i + 1) text)) o)
+        ≡ whole
         → within most (value_from base m (drop (i + 1) text)) ≡ whole
     by None e f = absurd (cc)
     by (Some d) e f = inner (nat_le (n * base + d) most) e f
@@ -50,10 +58,12 @@ pub ends : (most base n i : ℕ) (text : List ℕ) (whole : Option ℕ) → 1 �
     → within most (option_map (λ d. n * base + d) (digit base (get_or text i 0))) ≡ None
     → within most (value_from base n (drop i text)) ≡ whole → None ≡ whole
 ends most base n i text whole some below none is =
-    by (digit base (get_or text i 0)) none (ap (within most) (sym (read_one base n i text below)) ∙ is)
+    by (digit base (get_or text i 0)) none (ap (within most) (sym (read_one base n i text below))
+    ∙ is)
   where
     by : (o : Option ℕ) → within most (option_map (λ d. n * base + d) o) ≡ None
-        → within most (option_and_then (λ d. value_from base (n * base + d) (drop (i + 1) text)) o) ≡ whole → None ≡ whole
+        → within most (option_and_then (λ d. value_from base (n * base + d) (drop (i + 1) text)) o)
+        ≡ whole → None ≡ whole
     by None e f = f
     by (Some d) e f =
         let above : most < n * base + d = grind (arith, nat_tests, e) in

@@ -10,7 +10,8 @@ loop-preserved c =
     let step = rest_of-suc k c.loop.register c.loop.invariant.fits in
     record {
       fits = omega arith;
-      left = ap (rest_of k) c.shifted-register.ensures.exact ∙ sym step ∙ sym (ap (λ n. rest_of n c.loop.register) next) ∙ c.loop.invariant.left;
+      left = ap (rest_of k) c.shifted-register.ensures.exact ∙ sym step
+          ∙ sym (ap (λ n. rest_of n c.loop.register) next) ∙ c.loop.invariant.left;
     }
 
 pub returns : goal.returns

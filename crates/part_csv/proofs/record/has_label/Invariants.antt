@@ -7,4 +7,5 @@ use Rattle.part_csv.proofs.record.has_label.Given as goal
 -- the rows behind have the label where any has
 abbrev pub invariant-loop-i : goal.invariant-loop-i
 invariant-loop-i l =
-    list_any (λ (row : Row). bytes_eq row.label l.label) (drop l.i l.rows) ≡ list_any (λ (row : Row). bytes_eq row.label l.label) l.rows
+    list_any (λ (row : Row). bytes_eq row.label l.label) (drop l.i l.rows)
+    ≡ list_any (λ (row : Row). bytes_eq row.label l.label) l.rows

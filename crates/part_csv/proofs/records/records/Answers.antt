@@ -1,4 +1,4 @@
-use Rattle.std.proofs.Common.{Bor, List, ℕ, ◌≡◌, ◌∙◌, ◌+◌, ◌<◌, length, sym, refl, rules, inl, true, map, Some, ◌∷◌, [], arith}
+use Rattle.std.proofs.Common.{Bor, List, ℕ, ◌≡◌, ◌∙◌, sym, refl, rules, inl, true, map, Some, ◌∷◌, [], arith}
 use Rattle.std.specs.Result.{is_ok}
 use Rattle.std.proofs.lemmas.List.{map-append}
 use Rattle.csv.specs.Reading.{Reached, strip_bom}
@@ -37,8 +37,10 @@ loop-row-preserved c =
     let flexible = rw (c.in-Some.is, c.in-Ok.is) at steps.3 in
     let good : is_ok c.push.result ≡ true = search rules in
     let items = rw good at c.push.ensures.items in
-    let m = rows-more (λ (s : Bor (List ℕ)). Some s.now) c.loop-row.row-iterator.rdr c.next.new.self.rdr (fields_of c.in-Ok.row)
-    source_config st.StartRecord (strip_bom c.args.bytes.now) inv.4 (map fields_of c.loop-row.records.items) inv.3 inv.5 inv.6 s.0 in (
+    let m = rows-more (λ (s : Bor (List ℕ)). Some s.now) c.loop-row.row-iterator.rdr
+    c.next.new.self.rdr (fields_of c.in-Ok.row)
+    source_config st.StartRecord (strip_bom c.args.bytes.now) inv.4
+    (map fields_of c.loop-row.records.items) inv.3 inv.5 inv.6 s.0 in (
       s.0.3 ∙ inv.0,
       inl s.1,
       s.2,
@@ -55,8 +57,10 @@ unfolding source_records
 returns c =
     let inv = c.loop-row.invariant in
     let s = rw c.in-None.is at ((c.next.ensures.steps inv.2 inv.0).0 inv.1) in
-    let none = rows-end (λ (s : Bor (List ℕ)). Some s.now) c.loop-row.row-iterator.rdr c.next.new.self.rdr [] source_config inv.4 inv.3 inv.5 s in
+    let none = rows-end (λ (s : Bor (List ℕ)). Some s.now) c.loop-row.row-iterator.rdr
+    c.next.new.self.rdr [] source_config inv.4 inv.3 inv.5 s in
     record {
-      exact = are_records source_config _ st.StartRecord c.loop-row.row-iterator.rdr.state (strip_bom c.args.bytes.now) inv.4
+      exact = are_records source_config _ st.StartRecord c.loop-row.row-iterator.rdr.state
+          (strip_bom c.args.bytes.now) inv.4
           (map fields_of c.loop-row.records.items) (inl (omega arith)) inv.6 none;
     }

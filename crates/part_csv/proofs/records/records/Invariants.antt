@@ -12,5 +12,6 @@ invariant-loop-row l =
     (l.row-iterator.rdr.trim ≡ trim.None) × Ready l.row-iterator.rdr × (0 < l.row-iterator.left)
     × (l.row-iterator.rdr.config ≡ source_config)
     × (y : List ℕ) × (source_of (λ s. Some s.now) l.row-iterator.rdr ≡ Some y)
-    × Reached source_config st.StartRecord (strip_bom l.fn.bytes) (map fields_of l.records.items) l.row-iterator.rdr.state y
+    × Reached source_config st.StartRecord (strip_bom l.fn.bytes) (map fields_of l.records.items)
+    l.row-iterator.rdr.state y
     × (is_flexible l.row-iterator.rdr ≡ true)

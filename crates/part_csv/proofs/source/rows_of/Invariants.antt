@@ -6,6 +6,7 @@ use Rattle.part_csv.proofs.source.rows_of.Given as goal
 -- the rows so far, and the records behind, give all rows
 abbrev pub invariant-loop-i : goal.invariant-loop-i
 invariant-loop-i l = record {
-  rows : rows_from (l.i + 1) l.rows.items (map fields_of (drop l.i l.records)) ≡ rows_from 1 [] (map fields_of l.records);
+  rows : rows_from (l.i + 1) l.rows.items (map fields_of (drop l.i l.records))
+      ≡ rows_from 1 [] (map fields_of l.records);
   few : length l.rows.items ≤ 94;
 }

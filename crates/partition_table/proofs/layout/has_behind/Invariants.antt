@@ -5,4 +5,5 @@ use Rattle.partition_table.proofs.layout.has_behind.Given as goal
 
 -- the rows behind have such a slot where any has
 abbrev pub invariant-loop-i : goal.invariant-loop-i
-invariant-loop-i l = list_any (is_behind l.slot) (drop l.i l.rows) ≡ list_any (is_behind l.slot) l.rows
+invariant-loop-i l = list_any (is_behind l.slot) (drop l.i l.rows)
+    ≡ list_any (is_behind l.slot) l.rows

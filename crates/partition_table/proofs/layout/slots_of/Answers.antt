@@ -1,6 +1,6 @@
-use Rattle.std.proofs.Common.{◌≡◌, ◌∙◌, ◌-◌, ◌++◌, sym, ap, arith}
+use Rattle.std.proofs.Common.{◌≡◌, ◌∙◌, ◌-◌, sym, arith}
 use Rattle.std.proofs.lemmas.List.{append-nil}
-use Rattle.partition_table.specs.Layout.{slots_from, with_slot}
+use Rattle.partition_table.specs.Layout.{slots_from}
 use Rattle.partition_table.proofs.Steps.{moved, slots-step}
 use Rattle.partition_table.proofs.layout.slots_of.Goals as goal
 
@@ -19,7 +19,8 @@ loop-k-preserved c =
     let found = sym c.row_with.ensures.exact ∙ c.in-Some.is in
     let whole = rw (step, found) at c.loop-k.invariant.slots in
     record {
-      slots = moved c.loop-k.slots.items c.push.new.self.items c.in-Some.row _ _ c.push.ensures.items whole;
+      slots = moved c.loop-k.slots.items c.push.new.self.items c.in-Some.row _ _
+          c.push.ensures.items whole;
       count = omega arith;
     }
 

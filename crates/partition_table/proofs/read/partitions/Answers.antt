@@ -1,4 +1,4 @@
-use Rattle.std.proofs.Common.{◌≡◌, ◌∙◌, sym, arith}
+use Rattle.std.proofs.Common.{◌∙◌, sym, arith}
 use Rattle.std.proofs.lemmas.List.{take_rest}
 use Rattle.partition_table.proofs.Steps.{count-end, count-go, count-stop}
 use Rattle.partition_table.proofs.read.partitions.Goals as goal

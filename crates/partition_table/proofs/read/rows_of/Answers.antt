@@ -1,4 +1,4 @@
-use Rattle.std.proofs.Common.{◌≡◌, ◌∙◌, ◌-◌, ◌++◌, sym, ap, arith}
+use Rattle.std.proofs.Common.{◌≡◌, ◌∙◌, ◌-◌, sym, arith}
 use Rattle.std.proofs.lemmas.List.{append-nil, take_rest}
 use Rattle.partition_table.specs.Table.{first_rows}
 use Rattle.partition_table.proofs.Steps.{moved, rows-step}

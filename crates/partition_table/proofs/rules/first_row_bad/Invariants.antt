@@ -5,4 +5,5 @@ use Rattle.partition_table.proofs.rules.first_row_bad.Given as goal
 
 -- the rows behind give the first answer of all
 abbrev pub invariant-loop-i : goal.invariant-loop-i
-invariant-loop-i l = first_at (row_bad l.flash) l.i (drop l.i l.rows) ≡ first_at (row_bad l.flash) 0 l.rows
+invariant-loop-i l = first_at (row_bad l.flash) l.i (drop l.i l.rows)
+    ≡ first_at (row_bad l.flash) 0 l.rows
