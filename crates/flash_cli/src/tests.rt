@@ -53,7 +53,7 @@ const THIRD: Numbers = (3, VALID, 0xED4A5011);
 /// No byte of the flash is changed.
 const UNCHANGED: (usize, u8) = (usize::MAX, 0);
 
-const USAGE: &str = "usage: flash_cli choose\n";
+const USAGE: &str = "usage: flash_cli choose|table-make|table-show\n";
 
 const BLANK_LINES: &str = "entry 0 seq 4294967295 state UNDEFINED invalid
 entry 1 seq 4294967295 state UNDEFINED invalid
@@ -301,6 +301,146 @@ fn a_put_that_fails_leaves_those_before_it(rt: HostRuntime) -> Result<(), Fail> 
                 }
             }
         }
+    }
+    Ok(())
+}
+
+/// The source of a table with a factory application and two slots.
+const SOURCE: &str = "# Name, Type, SubType, Offset, Size, Flags
+nvs, data, nvs, , 0x4000,
+otadata, data, ota, , 0x2000,
+phy_init, data, phy, , 0x1000,
+factory, app, factory, , 1M,
+ota_0, app, ota_0, , 1M,
+ota_1, app, ota_1, , 1M,
+";
+
+/// The lines of its table.
+const LINES: &str = "nvs 1 0x02 0x00009000 0x00004000 0x00000000
+otadata 1 0x00 0x0000D000 0x00002000 0x00000000
+phy_init 1 0x01 0x0000F000 0x00001000 0x00000000
+factory 0 0x00 0x00010000 0x00100000 0x00000000
+ota_0 0 0x10 0x00110000 0x00100000 0x00000000
+ota_1 0 0x11 0x00210000 0x00100000 0x00000000
+";
+
+/// The MD5 digest of its rows, by Python's `hashlib.md5`.
+const LABELLED_DIGEST: [u8; 16] = [
+    0xBF, 0x25, 0x82, 0x2C, 0x0F, 0xA6, 0xD8, 0x64, 0x1B, 0xD9, 0x30, 0x25, 0x1E, 0x06, 0xB4, 0xC4,
+];
+
+/// A store with one file.
+fn store_of(alloc: Global, name: &str, bytes: &[u8]) -> Result<MemStore, AllocError> {
+    let file = File {
+        name: String::from_str(alloc, name)?,
+        bytes: Vec::from_slice(alloc, bytes)?,
+    };
+    let mut files = Vec::new(alloc);
+    files.push(file)?;
+    Ok(MemStore::new(files, Vec::new(alloc)))
+}
+
+/// The status of a call with these words on a store, and what it pushed.
+fn called(
+    alloc: Global,
+    words: &[&str],
+    store: &mut MemStore,
+) -> Result<(Status, MemSink), AllocError> {
+    let mut sink = MemSink::new(alloc, Vec::new(alloc));
+    let words = words_of(alloc, words)?;
+    let status = plain(alloc, &words, store, &mut sink);
+    Ok((status, sink))
+}
+
+#[test]
+fn a_table_is_made_of_its_source_and_shown(rt: HostRuntime) -> Result<(), Fail> {
+    let alloc = rt.alloc();
+    let mut store = store_of(alloc, "t.csv", SOURCE.as_bytes())?;
+    let (status, sink) = called(alloc, &["table-make", "t.csv", "T"], &mut store)?;
+    assert_eq!(rt;
+        (status, sink.bytes()),
+        (Status::Done, b"rows 6\n".as_slice()),
+        "table-make"
+    );
+    let table = store.get(alloc, "T")?;
+    assert_eq!(rt; table.len(), 3072, "the length of a table");
+    assert_eq!(rt;
+        &table[..16],
+        b"\xAA\x50\x01\x02\x00\x90\x00\x00\x00\x40\x00\x00nvs\x00".as_slice(),
+        "the first row"
+    );
+    assert_eq!(rt;
+        &table[192..208],
+        b"\xEB\xEB\xFF\xFF\xFF\xFF\xFF\xFF\xFF\xFF\xFF\xFF\xFF\xFF\xFF\xFF".as_slice(),
+        "the mark of the digest"
+    );
+    assert_eq!(rt; &table[208..224], LABELLED_DIGEST.as_slice(), "the digest");
+    assert_eq!(rt;
+        table[224..].iter().all(|byte| *byte == 0xFF),
+        true,
+        "the end row"
+    );
+    let (status, sink) = called(alloc, &["table-show", "T"], &mut store)?;
+    assert_eq!(rt;
+        (status, sink.bytes()),
+        (Status::Done, LINES.as_bytes()),
+        "table-show"
+    );
+    Ok(())
+}
+
+#[test]
+fn tables_and_sources_are_refused_by_name(rt: HostRuntime) -> Result<(), Fail> {
+    let alloc = rt.alloc();
+    for (words, file, text) in [
+        (
+            ["table-show", "F", ""],
+            [0xFF; 100].as_slice(),
+            "refused: table length 100\n",
+        ),
+        (
+            ["table-show", "F", ""],
+            [0xFF; 3072].as_slice(),
+            "refused: table md5 row 0\n",
+        ),
+        (
+            ["table-show", "F", ""],
+            [0; 3072].as_slice(),
+            "refused: table magic row 0\n",
+        ),
+        (
+            ["table-show", "G", ""],
+            [0; 3072].as_slice(),
+            "refused: absent G\n",
+        ),
+        (
+            ["table-make", "F", "T"],
+            b"a, data, nvs, 0x9000, 0x2000,\nb, data, nvs, 0xA000, 0x1000,".as_slice(),
+            "refused: table overlap rows 0 1\n",
+        ),
+        (
+            ["table-make", "F", "T"],
+            b"a, app, , , 1M,".as_slice(),
+            "refused: csv record 1 subtype\n",
+        ),
+    ] {
+        let mut store = store_of(alloc, "F", file)?;
+        let words = if words[2].is_empty() {
+            &words[..2]
+        } else {
+            &words[..]
+        };
+        let (status, sink) = called(alloc, words, &mut store)?;
+        assert_eq!(rt;
+            (status.code(), sink.bytes()),
+            (2, text.as_bytes()),
+            "{text}"
+        );
+        assert_eq!(rt;
+            store.get(alloc, "T"),
+            Err(GetFault::Absent),
+            "a refused command puts nothing"
+        );
     }
     Ok(())
 }
