@@ -4,7 +4,7 @@ use Rattle.std.specs.Prelude.{if◌then◌else◌, IsNone, unwrap_or}
 use Rattle.core_state.specs.declared.registers.Regs.{Regs}
 use Rattle.core_state.specs.declared.registers.Record.{Record}
 use Rattle.core_state.specs.Registers.{masked, own_registers}
-use Rattle.image_layout.specs.declared.address_space.Space.{Space}
+use Rattle.image_layout.specs.declared.space.Space.{Space}
 use Rattle.duo_machine.specs.declared.machine.Gate.{Gate}
 use Rattle.duo_machine.specs.declared.machine.Phase.{Phase}
 use Rattle.duo_machine.specs.declared.machine.Phase.TheVariants.{Running}

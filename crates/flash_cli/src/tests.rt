@@ -357,11 +357,8 @@ fn a_table_is_made_of_its_source_and_shown(rt: HostRuntime) -> Result<(), Fail> 
     let alloc = rt.alloc();
     let mut store = store_of(alloc, "t.csv", SOURCE.as_bytes())?;
     let (status, sink) = called(alloc, &["table-make", "t.csv", "T"], &mut store)?;
-    assert_eq!(rt;
-        (status, sink.bytes()),
-        (Status::Done, b"rows 6\n".as_slice()),
-        "table-make"
-    );
+    assert_eq!(rt; status, Status::Done, "table-make");
+    assert_eq!(rt; sink.bytes(), b"rows 6\n".as_slice(), "what it prints");
     let table = store.get(alloc, "T")?;
     assert_eq!(rt; table.len(), 3072, "the length of a table");
     assert_eq!(rt;
@@ -375,72 +372,67 @@ fn a_table_is_made_of_its_source_and_shown(rt: HostRuntime) -> Result<(), Fail> 
         "the mark of the digest"
     );
     assert_eq!(rt; &table[208..224], LABELLED_DIGEST.as_slice(), "the digest");
-    assert_eq!(rt;
-        table[224..].iter().all(|byte| *byte == 0xFF),
-        true,
-        "the end row"
-    );
+    assert_eq!(rt; &table[224..], [0xFF; 2848].as_slice(), "the end row");
     let (status, sink) = called(alloc, &["table-show", "T"], &mut store)?;
-    assert_eq!(rt;
-        (status, sink.bytes()),
-        (Status::Done, LINES.as_bytes()),
-        "table-show"
-    );
+    assert_eq!(rt; status, Status::Done, "table-show");
+    assert_eq!(rt; sink.bytes(), LINES.as_bytes(), "what it prints of it");
     Ok(())
+}
+
+/// A refused call on a store with the one file F.
+#[derive(Clone, Copy)]
+struct RefusedCall<'a> {
+    words: &'a [&'a str],
+    file: &'a [u8],
+    text: &'a str,
+}
+
+/// The refused calls.
+fn refused_calls<'a>() -> [RefusedCall<'a>; 6] {
+    [
+        RefusedCall {
+            words: &["table-show", "F"],
+            file: &[0xFF; 100],
+            text: "refused: table length 100\n",
+        },
+        RefusedCall {
+            words: &["table-show", "F"],
+            file: &[0xFF; 3072],
+            text: "refused: table md5 row 0\n",
+        },
+        RefusedCall {
+            words: &["table-show", "F"],
+            file: &[0; 3072],
+            text: "refused: table magic row 0\n",
+        },
+        RefusedCall {
+            words: &["table-show", "G"],
+            file: &[0; 3072],
+            text: "refused: absent G\n",
+        },
+        RefusedCall {
+            words: &["table-make", "F", "T"],
+            file: b"a, data, nvs, 0x9000, 0x2000,\nb, data, nvs, 0xA000, 0x1000,",
+            text: "refused: table overlap rows 0 1\n",
+        },
+        RefusedCall {
+            words: &["table-make", "F", "T"],
+            file: b"a, app, , , 1M,",
+            text: "refused: csv record 1 subtype\n",
+        },
+    ]
 }
 
 #[test]
 fn tables_and_sources_are_refused_by_name(rt: HostRuntime) -> Result<(), Fail> {
-    let alloc = rt.alloc();
-    for (words, file, text) in [
-        (
-            ["table-show", "F", ""],
-            [0xFF; 100].as_slice(),
-            "refused: table length 100\n",
-        ),
-        (
-            ["table-show", "F", ""],
-            [0xFF; 3072].as_slice(),
-            "refused: table md5 row 0\n",
-        ),
-        (
-            ["table-show", "F", ""],
-            [0; 3072].as_slice(),
-            "refused: table magic row 0\n",
-        ),
-        (
-            ["table-show", "G", ""],
-            [0; 3072].as_slice(),
-            "refused: absent G\n",
-        ),
-        (
-            ["table-make", "F", "T"],
-            b"a, data, nvs, 0x9000, 0x2000,\nb, data, nvs, 0xA000, 0x1000,".as_slice(),
-            "refused: table overlap rows 0 1\n",
-        ),
-        (
-            ["table-make", "F", "T"],
-            b"a, app, , , 1M,".as_slice(),
-            "refused: csv record 1 subtype\n",
-        ),
-    ] {
-        let mut store = store_of(alloc, "F", file)?;
-        let words = if words[2].is_empty() {
-            &words[..2]
-        } else {
-            &words[..]
-        };
-        let (status, sink) = called(alloc, words, &mut store)?;
-        assert_eq!(rt;
-            (status.code(), sink.bytes()),
-            (2, text.as_bytes()),
-            "{text}"
-        );
-        assert_eq!(rt;
-            store.get(alloc, "T"),
-            Err(GetFault::Absent),
-            "a refused command puts nothing"
-        );
+    for row in refused_calls() {
+        let text = row.text;
+        let mut store = store_of(rt.alloc(), "F", row.file)?;
+        let (status, sink) = called(rt.alloc(), row.words, &mut store)?;
+        assert_eq!(rt; status.code(), 2, "the status: {text}");
+        assert_eq!(rt; sink.bytes(), text.as_bytes(), "the text: {text}");
+        let put = store.get(rt.alloc(), "T");
+        assert_eq!(rt; put, Err(GetFault::Absent), "nothing is put: {text}");
     }
     Ok(())
 }
