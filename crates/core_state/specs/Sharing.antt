@@ -7,8 +7,8 @@ abbrev pub in_order : {D : Type 0} → (List D → List D → Type 0) → ℕ �
 in_order R zero mine theirs = R mine theirs
 in_order R (suc c) mine theirs = R theirs mine
 
--- what the old value stands for, the new one stands for once these items are added to what a core did,
--- wherever the base has room for them
+-- what the old value stands for, the new one stands for once these items are added to what a core
+-- did, wherever the base has room for them
 abbrev pub GoesOn :
     {V B D : Type 0} → (V → B → List D → List D → Type 0) → (B → ℕ → List D → Type 0) →
     V → V → ℕ → List D → Type 0

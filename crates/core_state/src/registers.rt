@@ -1,8 +1,8 @@
 //! The cache mask and the enabled interrupts of one core, in force and saved.
 //!
-//! While a flash operation runs the cache is off, so a core that fetched, or served an interrupt whose
-//! handler lies in flash, would run garbage. Before it parks, or begins the operation, a core saves both
-//! registers and clears them; afterwards it puts its own back.
+//! While a flash operation runs the cache is off, so a core that fetched, or served an interrupt
+//! whose handler lies in flash, would run garbage. Before it parks, or begins the operation, a core
+//! saves both registers and clears them; afterwards it puts its own back.
 ghost use Rattle.std.specs.Prelude.{◌≡◌, IsNone, IsSome};
 ghost use Rattle.core_state.specs.Registers.{starting, saved_and_masked, restored, own_registers};
 

@@ -20,10 +20,12 @@ pub trait Records {
     /// Whether the value stands for a base and for what core 0 and core 1 did to it.
     ghost stands: { Self → Self.Base → List Self.Did → List Self.Did → Type 0 };
 
+    /// The record of a core.
     fn record(&self, core: u8) -> Record
         requires { core < 2 }
         ensures { result ≡ records self.now core };
 
+    /// The core whose step runs in the value, if one runs.
     fn running(&self) -> Option<u8>
         ensures { result ≡ runs self.now };
 }

@@ -31,6 +31,7 @@ impl Records for Tally {
     }
 }
 
+/// One core adds this much.
 fn add(t: &mut Tally, _of: u8, amount: u64)
     requires core { _of < 2 }
     requires room { t.old.total + amount < 2 ^ 64 }
@@ -39,6 +40,7 @@ fn add(t: &mut Tally, _of: u8, amount: u64)
     t.total += amount;
 }
 
+/// Whether a core has saved its registers, read through the bound.
 fn has_saved<V: Records>(value: &V, core: u8) -> bool
     requires { core < 2 }
 {

@@ -1,4 +1,3 @@
-pub mod OwnSide
-pub mod OtherSide
+pub mod EachEvent
 pub mod StepKeeps
 pub mod RunLemmas

@@ -4,7 +4,7 @@ use Rattle.std.specs.Prelude.{if◌then◌else◌, IsNone, unwrap_or}
 use Rattle.core_state.specs.declared.registers.Regs.{Regs}
 use Rattle.core_state.specs.declared.registers.Record.{Record}
 use Rattle.core_state.specs.Registers.{masked, own_registers}
-use Rattle.image_layout.specs.declared.address_space.Space.{Space}
+use Rattle.image_layout.specs.declared.space.Space.{Space}
 use Rattle.duo_machine.specs.declared.machine.Gate.{Gate}
 use Rattle.duo_machine.specs.declared.machine.Phase.{Phase}
 use Rattle.duo_machine.specs.declared.machine.Phase.TheVariants.{Running}
@@ -80,7 +80,8 @@ wanted_own registers wanted none = from registers.saved none
     from None none = refl
     from (Some own) none = absurd (cc)
 
--- the own registers of a core after an event of a core: those that its own Set wrote, or else those before
+-- the own registers of a core after an event of a core: those that its own Set wrote, or else those
+-- before
 abbrev KeepsOwn : Machine → ℕ → Kind → ℕ → Type 0
 KeepsOwn m c kind d =
     own_registers (record_of (changed m c kind) d) ≡
@@ -129,6 +130,13 @@ run_keeps_own m (e ∷ events) d small safe cores can =
     run_keeps_own (after m e) events d small (event_keeps_safe m e cores.0 safe can.0) cores.1 can.1
     ∙ ap (last_set d events) (event_keeps_own m e d cores.0 small safe.two_cores can.0)
 
+-- the last Set of two parts of a run
+pub last_append : (c : ℕ) (front rest : List Event) (before : Regs)
+    → last_set c (front ++ rest) before ≡ last_set c rest (last_set c front before)
+last_append c [] rest before = refl
+last_append c (e ∷ front) rest before =
+    last_append c front rest (if e.core == c then set_by e.kind before else before)
+
 -- a run keeps a safe machine safe
 pub run_keeps_safe : (m : Machine) (events : List Event) → Safe m → AreOfTwoCores events
     → CanRun m events → Safe (after_all m events)
@@ -136,7 +144,7 @@ run_keeps_safe m [] safe cores can = safe
 run_keeps_safe m (e ∷ events) safe cores can =
     run_keeps_safe (after m e) events (event_keeps_safe m e cores.0 safe can.0) cores.1 can.1
 
--- the events of a first part, and those behind it, are of two cores
+-- the events of a first part, and those after it, are of two cores
 cores_split : (front rest : List Event) → AreOfTwoCores (front ++ rest)
     → AreOfTwoCores front × AreOfTwoCores rest
 cores_split [] rest cores = (tt, cores)

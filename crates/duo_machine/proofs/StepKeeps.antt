@@ -1,17 +1,19 @@
 -- Each event keeps a machine safe.
-use Rattle.std.proofs.Common.{◌≡◌, ℕ, zero, suc, ◌<◌, List, [], ◌∷◌, length, Option, arith, refl}
+use Rattle.std.proofs.Common.{◌≡◌, ℕ, zero, suc, ◌+◌, ◌<◌, List, [], ◌∷◌, length, Option, None, arith, refl}
 use Rattle.core_state.specs.declared.registers.Record.{Record}
+use Rattle.core_state.specs.Registers.{starting}
 use Rattle.duo_machine.specs.declared.machine.Gate.{Gate}
+use Rattle.duo_machine.specs.declared.machine.Gate.TheVariants.{Rest as AtRest}
 use Rattle.duo_machine.specs.declared.machine.Phase.{Phase}
+use Rattle.duo_machine.specs.declared.machine.Phase.TheVariants.{Resting}
 use Rattle.duo_machine.specs.declared.machine.Machine.{Machine}
 use Rattle.duo_machine.specs.declared.events.Kind.{Kind}
 use Rattle.duo_machine.specs.declared.events.Kind.TheVariants.{Start, Rest, Take, Give, Save, Back, Hold, Ask, Park, See, Begin, Done, End, Leave, Set, Fetch}
 use Rattle.duo_machine.specs.declared.events.Event.{Event}
-use Rattle.duo_machine.specs.Machine.{HasTwoCores}
+use Rattle.duo_machine.specs.Machine.{HasTwoCores, first_machine}
 use Rattle.duo_machine.specs.Safe.{SafeAt, Safe}
 use Rattle.duo_machine.specs.Table.{Allows, changed, CanHappen, after}
-use Rattle.duo_machine.proofs.OwnSide.{start-own, rest-own, take-own, give-own, save-own, back-own, ask-own, hold-own, see-own, park-own, begin-own, done-own, end-own, leave-own, set-own}
-use Rattle.duo_machine.proofs.OtherSide.{start-other, rest-other, take-other, give-other, ask-other, hold-other, see-other, park-other, begin-other, done-other, end-other, leave-other}
+use Rattle.duo_machine.proofs.EachEvent.{SafeForBoth, start, rest, take, give, save, back, hold, ask, park, see, begin, done, end, leave, set_own}
 
 -- the machine that has these two cores
 abbrev pub of_two : ℕ → Gate → Gate → Phase → Phase → Record → Record → Option ℕ → Machine
@@ -23,7 +25,8 @@ of_two lock gate gate' phase phase' registers registers' running = record {
   running = running;
 }
 
--- what is shown of each machine that has two cores in its lists holds of each that has them by count
+-- what is shown of each machine that has two cores in its lists holds of each that has them by
+-- count
 pub by_two : (P : Machine → Type 0)
     → ((lock : ℕ) (gate gate' : Gate) (phase phase' : Phase) (registers registers' : Record)
     (running : Option ℕ) → P (of_two lock gate gate' phase phase' registers registers' running))
@@ -53,16 +56,22 @@ by_two P at m two = from m.lock m.gates m.phases m.records m.running two.gates t
     from lock gs ps (r ∷ []) running a b c = absurd (omega arith)
     from lock gs ps (r ∷ r' ∷ r'' ∷ rs) running a b c = absurd (omega arith)
 
--- a machine of two cores that is safe for each of them is safe
+-- a machine of two cores that is safe for both of them is safe, whichever core made the event
 pair : {lock : ℕ} {gate gate' : Gate} {phase phase' : Phase} {registers registers' : Record}
-    {running : Option ℕ} → SafeAt 0 lock gate phase phase' registers running
-    → SafeAt 1 lock gate' phase' phase registers' running
+    {running : Option ℕ}
+    → SafeForBoth 0 1 lock gate gate' phase phase' registers registers' running
     → Safe (of_two lock gate gate' phase phase' registers registers' running)
-pair first second = record {
+pair both = record {
   two_cores = record { gates = refl; phases = refl; records = refl };
-  zero_safe = first;
-  one_safe = second;
+  zero_safe = both.0;
+  one_safe = both.1;
 }
+
+pair_back : {lock : ℕ} {gate gate' : Gate} {phase phase' : Phase} {registers registers' : Record}
+    {running : Option ℕ}
+    → SafeForBoth 1 0 lock gate' gate phase' phase registers' registers running
+    → Safe (of_two lock gate gate' phase phase' registers registers' running)
+pair_back both = pair (both.1, both.0)
 
 -- each event of core 0 keeps a machine of two cores safe
 zero_keeps : (kind : Kind) {lock : ℕ} {gate gate' : Gate} {phase phase' : Phase}
@@ -70,46 +79,21 @@ zero_keeps : (kind : Kind) {lock : ℕ} {gate gate' : Gate} {phase phase' : Phas
     → Safe (of_two lock gate gate' phase phase' registers registers' running)
     → Allows (of_two lock gate gate' phase phase' registers registers' running) 0 kind
     → Safe (changed (of_two lock gate gate' phase phase' registers registers' running) 0 kind)
-zero_keeps Start s g =
-    pair (start-own refl s.zero_safe s.one_safe g.0 g.1)
-    (start-other refl s.zero_safe s.one_safe g.0 g.1)
-zero_keeps Rest s g =
-    pair (rest-own refl s.zero_safe s.one_safe g.0 g.1 g.2)
-    (rest-other refl s.zero_safe s.one_safe g.0 g.1 g.2)
-zero_keeps Take s g =
-    pair (take-own refl s.zero_safe s.one_safe g.0 g.1)
-    (take-other refl s.zero_safe s.one_safe g.0 g.1)
-zero_keeps Give s g =
-    pair (give-own refl s.zero_safe s.one_safe g.0 g.1 g.2)
-    (give-other refl s.zero_safe s.one_safe g.0 g.1 g.2)
-zero_keeps Save s g = pair (save-own refl s.zero_safe s.one_safe g.0 g.1) s.one_safe
-zero_keeps Back s g = pair (back-own refl s.zero_safe s.one_safe g.0 g.1) s.one_safe
-zero_keeps Ask s g =
-    pair (ask-own refl s.zero_safe s.one_safe g.0 g.1 g.2)
-    (ask-other refl s.zero_safe s.one_safe g.0 g.1 g.2)
-zero_keeps Hold s g =
-    pair (hold-own refl s.zero_safe s.one_safe g.0 g.1 g.2)
-    (hold-other refl s.zero_safe s.one_safe g.0 g.1 g.2)
-zero_keeps See s g =
-    pair (see-own refl s.zero_safe s.one_safe g.0 g.1)
-    (see-other refl s.zero_safe s.one_safe g.0 g.1)
-zero_keeps Park s g =
-    pair (park-own refl s.zero_safe s.one_safe g.0 g.1 g.2)
-    (park-other refl s.zero_safe s.one_safe g.0 g.1 g.2)
-zero_keeps Begin s g =
-    pair (begin-own refl s.zero_safe s.one_safe g.0 g.1)
-    (begin-other refl s.zero_safe s.one_safe g.0 g.1)
-zero_keeps Done s g =
-    pair (done-own refl s.zero_safe s.one_safe g.0 g.1)
-    (done-other refl s.zero_safe s.one_safe g.0 g.1)
-zero_keeps End s g =
-    pair (end-own refl s.zero_safe s.one_safe g.0 g.1 g.2)
-    (end-other refl s.zero_safe s.one_safe g.0 g.1 g.2)
-zero_keeps Leave s g =
-    pair (leave-own refl s.zero_safe s.one_safe g.0 g.1)
-    (leave-other refl s.zero_safe s.one_safe g.0 g.1)
-zero_keeps (Set registers) s g =
-    pair (set-own refl s.zero_safe s.one_safe registers g.0 g.1 g.2) s.one_safe
+zero_keeps Start s g = pair (start refl s.zero_safe s.one_safe g.0 g.1)
+zero_keeps Rest s g = pair (rest refl s.zero_safe s.one_safe g.0 g.1 g.2)
+zero_keeps Take s g = pair (take refl s.zero_safe s.one_safe g.0 g.1)
+zero_keeps Give s g = pair (give refl s.zero_safe s.one_safe g.0 g.1 g.2)
+zero_keeps Save s g = pair (save refl s.zero_safe s.one_safe g.0 g.1)
+zero_keeps Back s g = pair (back refl s.zero_safe s.one_safe g.0 g.1)
+zero_keeps Hold s g = pair (hold refl s.zero_safe s.one_safe g.0 g.1 g.2)
+zero_keeps Ask s g = pair (ask refl s.zero_safe s.one_safe g.0 g.1 g.2)
+zero_keeps Park s g = pair (park refl s.zero_safe s.one_safe g.0 g.1 g.2)
+zero_keeps See s g = pair (see refl s.zero_safe s.one_safe g.0 g.1)
+zero_keeps Begin s g = pair (begin refl s.zero_safe s.one_safe g.0 g.1)
+zero_keeps Done s g = pair (done refl s.zero_safe s.one_safe g.0 g.1)
+zero_keeps End s g = pair (end refl s.zero_safe s.one_safe g.0 g.1 g.2)
+zero_keeps Leave s g = pair (leave refl s.zero_safe s.one_safe g.0 g.1)
+zero_keeps (Set registers) s g = pair (set_own refl s.zero_safe s.one_safe registers g.0 g.1 g.2)
 zero_keeps (Fetch space) s g = s
 
 -- each event of core 1 keeps a machine of two cores safe
@@ -118,43 +102,22 @@ one_keeps : (kind : Kind) {lock : ℕ} {gate gate' : Gate} {phase phase' : Phase
     → Safe (of_two lock gate gate' phase phase' registers registers' running)
     → Allows (of_two lock gate gate' phase phase' registers registers' running) 1 kind
     → Safe (changed (of_two lock gate gate' phase phase' registers registers' running) 1 kind)
-one_keeps Start s g =
-    pair (start-other refl s.one_safe s.zero_safe g.0 g.1)
-    (start-own refl s.one_safe s.zero_safe g.0 g.1)
-one_keeps Rest s g =
-    pair (rest-other refl s.one_safe s.zero_safe g.0 g.1 g.2)
-    (rest-own refl s.one_safe s.zero_safe g.0 g.1 g.2)
-one_keeps Take s g =
-    pair (take-other refl s.one_safe s.zero_safe g.0 g.1)
-    (take-own refl s.one_safe s.zero_safe g.0 g.1)
-one_keeps Give s g =
-    pair (give-other refl s.one_safe s.zero_safe g.0 g.1 g.2)
-    (give-own refl s.one_safe s.zero_safe g.0 g.1 g.2)
-one_keeps Save s g = pair s.zero_safe (save-own refl s.one_safe s.zero_safe g.0 g.1)
-one_keeps Back s g = pair s.zero_safe (back-own refl s.one_safe s.zero_safe g.0 g.1)
-one_keeps Ask s g = pair (ask-other refl s.one_safe s.zero_safe g.0 g.1 g.2)
-    (ask-own refl s.one_safe s.zero_safe g.0 g.1 g.2)
-one_keeps Hold s g =
-    pair (hold-other refl s.one_safe s.zero_safe g.0 g.1 g.2)
-    (hold-own refl s.one_safe s.zero_safe g.0 g.1 g.2)
-one_keeps See s g = pair (see-other refl s.one_safe s.zero_safe g.0 g.1)
-    (see-own refl s.one_safe s.zero_safe g.0 g.1)
-one_keeps Park s g =
-    pair (park-other refl s.one_safe s.zero_safe g.0 g.1 g.2)
-    (park-own refl s.one_safe s.zero_safe g.0 g.1 g.2)
-one_keeps Begin s g =
-    pair (begin-other refl s.one_safe s.zero_safe g.0 g.1)
-    (begin-own refl s.one_safe s.zero_safe g.0 g.1)
-one_keeps Done s g =
-    pair (done-other refl s.one_safe s.zero_safe g.0 g.1)
-    (done-own refl s.one_safe s.zero_safe g.0 g.1)
-one_keeps End s g = pair (end-other refl s.one_safe s.zero_safe g.0 g.1 g.2)
-    (end-own refl s.one_safe s.zero_safe g.0 g.1 g.2)
-one_keeps Leave s g =
-    pair (leave-other refl s.one_safe s.zero_safe g.0 g.1)
-    (leave-own refl s.one_safe s.zero_safe g.0 g.1)
+one_keeps Start s g = pair_back (start refl s.one_safe s.zero_safe g.0 g.1)
+one_keeps Rest s g = pair_back (rest refl s.one_safe s.zero_safe g.0 g.1 g.2)
+one_keeps Take s g = pair_back (take refl s.one_safe s.zero_safe g.0 g.1)
+one_keeps Give s g = pair_back (give refl s.one_safe s.zero_safe g.0 g.1 g.2)
+one_keeps Save s g = pair_back (save refl s.one_safe s.zero_safe g.0 g.1)
+one_keeps Back s g = pair_back (back refl s.one_safe s.zero_safe g.0 g.1)
+one_keeps Hold s g = pair_back (hold refl s.one_safe s.zero_safe g.0 g.1 g.2)
+one_keeps Ask s g = pair_back (ask refl s.one_safe s.zero_safe g.0 g.1 g.2)
+one_keeps Park s g = pair_back (park refl s.one_safe s.zero_safe g.0 g.1 g.2)
+one_keeps See s g = pair_back (see refl s.one_safe s.zero_safe g.0 g.1)
+one_keeps Begin s g = pair_back (begin refl s.one_safe s.zero_safe g.0 g.1)
+one_keeps Done s g = pair_back (done refl s.one_safe s.zero_safe g.0 g.1)
+one_keeps End s g = pair_back (end refl s.one_safe s.zero_safe g.0 g.1 g.2)
+one_keeps Leave s g = pair_back (leave refl s.one_safe s.zero_safe g.0 g.1)
 one_keeps (Set registers) s g =
-    pair s.zero_safe (set-own refl s.one_safe s.zero_safe registers g.0 g.1 g.2)
+    pair_back (set_own refl s.one_safe s.zero_safe registers g.0 g.1 g.2)
 one_keeps (Fetch space) s g = s
 
 -- each event of a core keeps a safe machine safe
@@ -170,3 +133,11 @@ event_keeps_safe m e core safe can = by_core e.core e.kind core safe can
         by_two (λ m. Safe m → Allows m 1 kind → Safe (changed m 1 kind))
         (λ lock g g' p p' r r' running. one_keeps kind) m safe.two_cores safe can
     by_core (suc (suc c)) kind small safe can = absurd (omega arith)
+
+-- a core at rest as at the start, beside another one
+at_rest : (c o : ℕ) → c + o ≡ 1 → SafeAt c 0 AtRest Resting Resting starting None
+at_rest c o apart = grind arith
+
+-- the first machine is safe
+pub first_safe : Safe first_machine
+first_safe = pair (at_rest 0 1 refl, at_rest 1 0 refl)

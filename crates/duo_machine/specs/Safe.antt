@@ -66,8 +66,8 @@ pub record RegistersFit (phase : Phase) (registers : Record) : Type 0 where
   -- the core's own mask, in force or saved, has no bits but those of the two spaces
   pub own_mask : (own_registers registers).mask ≤ 3
 
--- what a safe machine is for one core: its number, the lock, its gate, its phase, the phase of the other
--- core, its record and the running step
+-- what a safe machine is for one core: its number, the lock, its gate, its phase, the phase of the
+-- other core, its record and the running step
 pub record SafeAt
     (c lock : ℕ) (gate : Gate) (phase other_phase : Phase) (registers : Record) (running : Option ℕ)
     : Type 0 where

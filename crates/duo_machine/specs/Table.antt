@@ -2,8 +2,8 @@
 use Rattle.std.specs.Prelude.{◌≡◌, ◌≢◌, ℕ, ◌+◌, ◌≤◌, ◌⊎◌, Some, None, IsSome, IsNone}
 use Rattle.std.specs.Int.{IsBitSet}
 use Rattle.core_state.specs.Registers.{saved_and_masked, restored}
-use Rattle.image_layout.specs.declared.address_space.Space.{Space}
-use Rattle.image_layout.specs.declared.address_space.Space.TheVariants.{Data, Code}
+use Rattle.image_layout.specs.declared.space.Space.{Space}
+use Rattle.image_layout.specs.declared.space.Space.TheVariants.{Data, Code}
 use Rattle.duo_machine.specs.declared.machine.Gate.TheVariants.{Rest as AtRest, Run, Asked, Parked as AtParked, Freed, Held}
 use Rattle.duo_machine.specs.declared.machine.Phase.{Phase}
 use Rattle.duo_machine.specs.declared.machine.Phase.TheVariants.{Resting, Running, Owning, Asking, Quiet, Parked}

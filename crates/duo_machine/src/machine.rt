@@ -1,8 +1,9 @@
 //! The state of the two-core machine.
 //!
-//! A core that is about to start a flash operation needs the other one out of the way, since no core may
-//! fetch while the flash is busy. It takes the lock, asks the other core at that core's gate to park, or
-//! holds the gate shut where the other core has not started, and runs its step once it saw the gate.
+//! A core that is about to start a flash operation needs the other one out of the way, since no
+//! core may fetch while the flash is busy. It takes the lock, asks the other core at that core's
+//! gate to park, or holds the gate shut where the other core has not started, and runs its step
+//! once it saw the gate.
 ghost use Rattle.std.specs.Prelude.{◌≡◌, ◌↔◌, ◌<◌, IsTrue};
 ghost use Rattle.duo_machine.specs.Machine.{first_machine, with_gate, with_phase, with_record};
 ghost use Rattle.duo_machine.specs.Machine.{KeepsAway, let_go};
@@ -77,18 +78,21 @@ pub struct Machine {
 }
 
 impl Machine {
+    /// The same machine with another lock.
     pub(crate) fn with_lock(&self, lock: u8) -> Machine
         ensures { result ≡ record self.now { lock = lock } }
     {
         Machine { lock, ..*self }
     }
 
+    /// The same machine with another running step.
     pub(crate) fn with_running(&self, running: Option<u8>) -> Machine
         ensures { result ≡ record self.now { running = running } }
     {
         Machine { running, ..*self }
     }
 
+    /// The same machine with another gate of a core.
     pub(crate) fn with_gate(&self, core: usize, gate: Gate) -> Machine
         requires { core < 2 }
         ensures { result ≡ with_gate core gate self.now }
@@ -98,6 +102,7 @@ impl Machine {
         next
     }
 
+    /// The same machine with another phase of a core.
     pub(crate) fn with_phase(&self, core: usize, phase: Phase) -> Machine
         requires { core < 2 }
         ensures { result ≡ with_phase core phase self.now }
@@ -107,6 +112,7 @@ impl Machine {
         next
     }
 
+    /// The same machine with another record of a core.
     pub(crate) fn with_record(&self, core: usize, registers: Record) -> Machine
         requires { core < 2 }
         ensures { result ≡ with_record core registers self.now }

@@ -24,7 +24,8 @@ pub fn step(m: &Machine, e: &Event) -> Option<Machine>
     }
 }
 
-/// The machine after all events, or `None` where some event's guard does not hold when its turn comes.
+/// The machine after all events, or `None` where some event's guard does not hold when its turn
+/// comes.
 pub fn run(m: &Machine, events: &[Event]) -> Option<Machine>
     requires { AreOfTwoCores events.now }
     ensures exact { SomeIff result (CanRun m.now events.now) (after_all m.now events.now) }
@@ -37,13 +38,14 @@ pub fn run(m: &Machine, events: &[Event]) -> Option<Machine>
     Some(reached)
 }
 
-/// Whatever two cores do, in whatever order, a run that begins safe stays safe: no fetch meets a step,
-/// a step runs with both cores masked, and each core keeps its own registers.
+/// Whatever two cores do, in whatever order, a run that begins safe stays safe: no fetch meets a
+/// step, a step runs with both cores masked, and each core keeps its own registers.
 pub fn every_run_is_safe()
     ensures { (m : Machine) (events : List Event) →
         Safe m → AreOfTwoCores events → CanRun m events → IsSafeRun m events }
 {}
 
+/// Whether the guard of the event holds.
 fn allows(m: &Machine, e: &Event) -> bool
     requires { e.now.core < 2 }
     ensures { IsTrue result ↔ CanHappen m.now e.now }
@@ -73,6 +75,7 @@ fn allows(m: &Machine, e: &Event) -> bool
     }
 }
 
+/// Whether the mask has the bit of the space.
 fn serves(mask: u8, space: Space) -> bool
     ensures { IsTrue result ↔ IsBitSet mask (bit_of space) }
 {
@@ -82,6 +85,7 @@ fn serves(mask: u8, space: Space) -> bool
     }
 }
 
+/// The machine after an event whose guard holds.
 fn changed(m: &Machine, e: &Event) -> Machine
     requires core { e.now.core < 2 }
     requires can { CanHappen m.now e.now }

@@ -80,6 +80,7 @@ const KINDS: [Kind; 16] = [
     Kind::Fetch(Space::Code),
 ];
 
+/// Whether each event is of core 0 or core 1.
 fn are_of_two_cores(events: &[Event]) -> bool
     ensures { IsTrue result → AreOfTwoCores events.now }
 {
@@ -95,7 +96,7 @@ fn rows(rt: HostRuntime) -> Result<(), Fail> {
         core: 1,
         kind: Kind::Fetch(Space::Data),
     };
-    for (name, list, fetch_behind, want) in [
+    for (name, list, fetch_after, want) in [
         (
             "a whole hand-over",
             HAND_OVER.as_slice(),
@@ -120,7 +121,7 @@ fn rows(rt: HostRuntime) -> Result<(), Fail> {
     ] {
         let mut events = Vec::new(rt.alloc());
         for (i, &(core, kind)) in list.iter().enumerate() {
-            if fetch_behind == Some(i) {
+            if fetch_after == Some(i) {
                 events.push(fetch)?;
             }
             events.push(Event { core, kind })?;

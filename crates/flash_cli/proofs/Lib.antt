@@ -1,1 +1,4 @@
-pub mod ReportLemmas
+-- Lemmas on the words of specs/.
+pub mod PutLemmas
+pub mod OutcomeLemmas
+pub mod CallLaws

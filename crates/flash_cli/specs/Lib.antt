@@ -1,5 +1,12 @@
 pub mod Command
-pub mod Choose
-pub mod Text
+pub mod TableText
 pub mod Status
+pub mod Choice
+pub mod Text
+pub mod Answer
+pub mod Reading
+pub mod Choose
+pub mod TableMake
+pub mod TableShow
 pub mod Report
+pub mod Laws

@@ -1,127 +1,126 @@
--- What a command comes to: a function of the words and of the files that it reads.
-use Rattle.std.specs.Prelude.{◌≡◌, ℕ, List, [], ◌∷◌, map, Option, Some, None, Result, Ok, Err, IfSome, option_map, Vec}
-use Rattle.std.specs.FinMap.{get}
+-- What the words of a call come to, and what the program left in its store and its sink.
+use Rattle.std.specs.Prelude.{◌≡◌, ◌⊎◌, ℕ, List, Option, Some, None, IsSome, Result, Ok, Err, option_map, string_bytes, codes, Vec}
 use Rattle.std.specs.declared.alloc.Global.{Global}
 use Rattle.pipe_ends.specs.Fault.{Rose}
 use Rattle.pipe_ends.specs.Store.{Files}
 use Rattle.pipe_ends.specs.Sink.{TellsAll, TellsSome}
-use Rattle.flash_cli.specs.declared.choose.Choice.{Choice}
+use Rattle.flash_cli.specs.declared.answer.Answer.{Answer as CodeAnswer}
+use Rattle.flash_cli.specs.declared.error.Failure.{Failure}
+use Rattle.flash_cli.specs.declared.error.Failure.TheVariants.{Store, Memory}
+use Rattle.flash_cli.specs.declared.error.CommandError.{CommandError}
+use Rattle.flash_cli.specs.declared.error.CommandError.TheVariants.{Absent, Refused, Failed}
 use Rattle.flash_cli.specs.declared.refusal.Refusal.{Refusal}
-use Rattle.flash_cli.specs.declared.refusal.Refusal.TheVariants.{Absent}
+use Rattle.flash_cli.specs.declared.refusal.Refusal.TheVariants.{Absent as AbsentFile}
 use Rattle.flash_cli.specs.declared.status.Status.{Status}
-use Rattle.flash_cli.specs.declared.status.Status.TheVariants.{Done, Usage, Refused as EndsRefused}
-use Rattle.flash_cli.specs.declared.stop.Halt.{Halt}
-use Rattle.flash_cli.specs.declared.stop.Halt.TheVariants.{Store, Memory}
-use Rattle.flash_cli.specs.declared.stop.Stop.{Stop}
-use Rattle.flash_cli.specs.declared.stop.Stop.TheVariants.{Refused, Halted}
-use Rattle.flash_cli.specs.declared.top.Finished.{Finished}
-use Rattle.flash_cli.specs.Command.{Command, Choose, names_of}
-use Rattle.flash_cli.specs.Choose.{choice_of}
-use Rattle.flash_cli.specs.Text.{choice_text, refusal_line, usage_line}
+use Rattle.flash_cli.specs.declared.status.Status.TheVariants.{Done}
+use Rattle.flash_cli.specs.Command.{Command, Choose, TableMake, TableShow}
+use Rattle.flash_cli.specs.Reading.{Reading, Ended, Asks, Absence, ComesTo, TellsAnswer, read_in}
+use Rattle.flash_cli.specs.Answer.{Answer, Outcome, TellsPuts, TellsSomePuts, shown_answer, usage_outcome, refused_outcome}
+use Rattle.flash_cli.specs.Choose.{choose_answer}
+use Rattle.flash_cli.specs.TableMake.{table_make_answer}
+use Rattle.flash_cli.specs.TableShow.{table_show_answer}
 
--- the files that a command read, in the order of its words: their bytes, or none where one is absent
-abbrev pub FilesRead : Type 0
-FilesRead = List (Option (List ℕ))
+-- what each command reads, and what it comes to: its answer, or the first refusal
+abbrev pub reading_of : Command → Reading (Result Answer Refusal)
+reading_of (Choose flash) = Asks flash (λ bytes. Ended (choose_answer bytes))
+reading_of (TableMake csv out) = Asks csv (λ bytes. Ended (table_make_answer out bytes))
+reading_of (TableShow file) = Asks file (λ bytes. Ended (table_show_answer bytes))
 
--- what words read in a store of these files: by the names of the command, where they are one
-abbrev pub read_from : Files → Option Command → FilesRead
-read_from files None = []
-read_from files (Some command) = map (get files) (names_of command)
+-- the outcome of a command that came to this
+abbrev pub outcome_of : Result (Result Answer Refusal) Absence → Outcome
+outcome_of (Ok (Ok answer)) = record { status = Done; answer = answer }
+outcome_of (Ok (Err why)) = refused_outcome (codes "") why
+outcome_of (Err absence) = refused_outcome absence.name (AbsentFile absence.file)
 
--- where the files are told, these are what the words read in them
-abbrev pub AreFrom : Option Files → Option Command → FilesRead → Type 0
-AreFrom told command read = IfSome told (λ files. read ≡ read_from files command)
+-- A command comes to this outcome on the files that it reads, which are the store's where it tells them.
+pub record IsOutcomeOf (told : Option Files) (command : Command) (outcome : Outcome) : Type 0 where
+  pub result : Result (Result Answer Refusal) Absence
+  pub comes : ComesTo told 0 (reading_of command) result
+  pub is : outcome ≡ outcome_of result
 
--- the text of a choice, where there is one
-abbrev pub text_of_choice : Result Choice Refusal → Result (List ℕ) Refusal
-text_of_choice (Ok choice) = Ok (choice_text choice)
-text_of_choice (Err why) = Err why
+-- words come to this outcome
+abbrev pub IsOutcome : Option Files → Option Command → Outcome → Type 0
+IsOutcome told None outcome = outcome ≡ usage_outcome
+IsOutcome told (Some command) outcome = IsOutcomeOf told command outcome
 
--- the text of a command that is carried out on these files, or the first reason why it is refused
-abbrev pub result_of : Command → FilesRead → Result (List ℕ) Refusal
-result_of (Choose name) (Some flash ∷ read) = text_of_choice (choice_of flash)
-result_of (Choose name) (None ∷ read) = Err (Absent 0)
-result_of (Choose name) [] = Err (Absent 0)
+-- the outcome of words in these files
+abbrev pub outcome_in : Files → Option Command → Outcome
+outcome_in files None = usage_outcome
+outcome_in files (Some command) = outcome_of (read_in files 0 (reading_of command))
 
--- the status of a result
-abbrev pub status_of : Result (List ℕ) Refusal → Status
-status_of (Ok text) = Done
-status_of (Err why) = EndsRefused why
+-- A call ends whole: it has the status of the outcome, all files were put, and the whole text was pushed.
+pub record EndsWhole (told : Option Files) (command : Option Command) (status : Status)
+    (put : Option Files) (before after : Option (List ℕ)) : Type 0 where
+  pub outcome : Outcome
+  pub comes : IsOutcome told command outcome
+  pub ends : status ≡ outcome.status
+  pub puts : TellsPuts told outcome.answer.puts put
+  pub text : TellsAll before outcome.answer.text after
 
--- what is pushed of the result of a command
-abbrev pub text_of : Command → Result (List ℕ) Refusal → List ℕ
-text_of command (Ok text) = text
-text_of command (Err why) = refusal_line (names_of command) why
+-- A call ends before its text: the first files were put, which may be none, and nothing was pushed.
+pub record EndsBeforeText (told : Option Files) (command : Option Command)
+    (put : Option Files) (before after : Option (List ℕ)) : Type 0 where
+  pub outcome : Outcome
+  pub comes : IsOutcome told command outcome
+  pub puts : TellsSomePuts told outcome.answer.puts put
+  pub silent : after ≡ before
 
--- the status of the work of a command on these files; what is no command is a matter of usage
-abbrev pub outcome : Option Command → FilesRead → Status
-outcome None read = Usage
-outcome (Some command) read = status_of (result_of command read)
+-- A call ends in its text: all files were put, and a first part of the text was pushed, which may be none.
+pub record EndsInText (told : Option Files) (command : Option Command)
+    (put : Option Files) (before after : Option (List ℕ)) : Type 0 where
+  pub outcome : Outcome
+  pub comes : IsOutcome told command outcome
+  pub puts : TellsPuts told outcome.answer.puts put
+  pub text : TellsSome before outcome.answer.text after
 
--- the text that a command pushes in the end
-abbrev pub report : Option Command → FilesRead → List ℕ
-report None read = usage_line
-report (Some command) read = text_of command (result_of command read)
+-- a call ends before its text or in it
+abbrev pub EndsEarly : Option Files → Option Command → Option Files → Option (List ℕ)
+    → Option (List ℕ) → Type 0
+EndsEarly told command put before after =
+    EndsBeforeText told command put before after ⊎ EndsInText told command put before after
 
--- A command has this result on some files, which are the store's where it tells them.
-pub record IsResult (told : Option Files) (command : Command) (result : Result (List ℕ) Refusal)
-    : Type 0 where
-  pub read : FilesRead
-  pub from : AreFrom told (Some command) read
-  pub is : result ≡ result_of command read
+-- a failure that has its cause: the store counted a fault, or the program is out of memory
+abbrev pub IsCountedFailure : ℕ → ℕ → Failure → Type 0
+IsCountedFailure before now Store = Rose before now
+IsCountedFailure before now Memory = Unit {0}
 
--- the words were found to be no command, or memory ran out
-abbrev pub IsUsageOrMemory : Result Finished Halt → Type 0
-IsUsageOrMemory (Ok done) = done.status ≡ Usage
-IsUsageOrMemory (Err Store) = ⊥
-IsUsageOrMemory (Err Memory) = Unit {0}
+-- a failure of the store comes only of a command
+abbrev pub IsCommandsFailure : Option Command → Failure → Type 0
+IsCommandsFailure command Store = IsSome command
+IsCommandsFailure command Memory = Unit {0}
 
--- The words come to this status and text on some files, which are the store's where it tells them.
-pub record IsDone (told : Option Files) (command : Option Command) (status : Status) (text : List ℕ)
-    : Type 0 where
-  pub read : FilesRead
-  pub from : AreFrom told command read
-  pub ends : status ≡ outcome command read
-  pub tells : text ≡ report command read
+-- what was worked out without a store is this, unless the program is out of memory
+abbrev pub IsWorkedOut : Result Answer Refusal → Result CodeAnswer CommandError → Type 0
+IsWorkedOut expected (Ok answer) = expected ≡ Ok (shown_answer answer)
+IsWorkedOut expected (Err (Refused why)) = expected ≡ Err why
+IsWorkedOut expected (Err (Absent file name)) = ⊥
+IsWorkedOut expected (Err (Failed Store)) = ⊥
+IsWorkedOut expected (Err (Failed Memory)) = Unit {0}
 
--- Where the files are told, the words come to this status in them.
-abbrev pub IsOutcomeIn : Option Files → Option Command → Status → Type 0
-IsOutcomeIn told command status = IfSome told (λ files. status ≡ outcome command (read_from files command))
+-- a reading, of which this many files were read, ends so: by what it comes to, or by a failure
+abbrev pub IsEnd : Option Files → ℕ → Reading (Result Answer Refusal) → ℕ → ℕ
+    → Result CodeAnswer CommandError → Type 0
+IsEnd told number reading before now (Ok answer) =
+    ComesTo told number reading (Ok (Ok (shown_answer answer)))
+IsEnd told number reading before now (Err (Refused why)) = ComesTo told number reading (Ok (Err why))
+IsEnd told number reading before now (Err (Absent file name)) =
+    ComesTo told number reading (Err (record { file = file; name = string_bytes name }))
+IsEnd told number reading before now (Err (Failed failure)) = IsCountedFailure before now failure
 
--- The words came to this status, and their whole text was pushed.
-pub record IsReported (told : Option Files) (command : Option Command) (status : Status)
-    (before after : Option (List ℕ)) : Type 0 where
-  pub text : List ℕ
-  pub done : IsDone told command status text
-  pub pushed : TellsAll before text after
+-- the file of this number and name is told to be absent, unless the program is out of memory
+abbrev pub IsAbsence : ℕ → List ℕ → CommandError → Type 0
+IsAbsence number name (Refused why) = ⊥
+IsAbsence number name (Absent file absent) = (file ≡ number) × (string_bytes absent ≡ name)
+IsAbsence number name (Failed Store) = ⊥
+IsAbsence number name (Failed Memory) = Unit {0}
 
--- The words came to some status, and a part of their text was pushed, which may be none.
-pub record IsPartlyReported (told : Option Files) (command : Option Command)
-    (before after : Option (List ℕ)) : Type 0 where
-  pub status : Status
-  pub text : List ℕ
-  pub done : IsDone told command status text
-  pub pushed : TellsSome before text after
+-- the file of this number and name was not read for this reason
+abbrev pub IsNotRead : Option Files → ℕ → List ℕ → ℕ → ℕ → CommandError → Type 0
+IsNotRead told number name before now (Refused why) = ⊥
+IsNotRead told number name before now (Absent file absent) =
+    TellsAnswer told name None × ((file ≡ number) × (string_bytes absent ≡ name))
+IsNotRead told number name before now (Failed failure) = IsCountedFailure before now failure
 
--- the program couldn't go on for this cause: the store counted a fault, or there was no memory
-abbrev pub HasCause : ℕ → ℕ → Halt → Type 0
-HasCause before now Store = Rose before now
-HasCause before now Memory = Unit {0}
-
--- what came of a text that reads no file: the text, or why there is none, unless memory ran out
-abbrev pub Gives : Result (Vec ℕ Global) Stop → Result (List ℕ) Refusal → Type 0
-Gives (Ok text) expected = expected ≡ Ok text.items
-Gives (Err (Refused why)) expected = expected ≡ Err why
-Gives (Err (Halted Store)) expected = ⊥
-Gives (Err (Halted Memory)) expected = Unit {0}
-
--- A command ends so: its text, a refusal, or a halt that has its cause.
-abbrev pub IsEnd : Option Files → Command → ℕ → ℕ → Result (Vec ℕ Global) Stop → Type 0
-IsEnd told command before now (Ok text) = IsResult told command (Ok text.items)
-IsEnd told command before now (Err (Refused why)) = IsResult told command (Err why)
-IsEnd told command before now (Err (Halted halt)) = HasCause before now halt
-
--- where the files are told, this is what the one of this name holds, or that there is none
+-- what a store answers of the file of this name
 abbrev pub IsFileRead : Option Files → List ℕ → Option (Vec ℕ Global) → Type 0
-IsFileRead told name file =
-    IfSome told (λ files. option_map (λ bytes. bytes.items) file ≡ get files name)
+IsFileRead told name file = TellsAnswer told name (option_map (λ bytes. bytes.items) file)

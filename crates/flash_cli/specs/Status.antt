@@ -25,21 +25,17 @@ IsWork (PowerCut step) = ⊥
 IsWork Memory = ⊥
 IsWork SinkFault = ⊥
 
--- the text was cut short, by the sink or for want of memory
-abbrev pub IsCutShort : Status → Type 0
-IsCutShort SinkFault = Unit {0}
-IsCutShort Memory = Unit {0}
-IsCutShort _ = ⊥
-
--- the work came to its end, or memory ran out
+-- the work came to its end, or the program is out of memory
 abbrev pub IsWorkOrMemory : Status → Type 0
 IsWorkOrMemory Memory = Unit {0}
 IsWorkOrMemory status = IsWork status
 
--- the words were found to be no command, or that could not be pushed
-abbrev pub IsUsageOrCutShort : Status → Type 0
-IsUsageOrCutShort Usage = Unit {0}
-IsUsageOrCutShort status = IsCutShort status
+-- the words were found to be no command, or that could not be told
+abbrev pub IsUsageOrUntold : Status → Type 0
+IsUsageOrUntold Usage = Unit {0}
+IsUsageOrUntold SinkFault = Unit {0}
+IsUsageOrUntold Memory = Unit {0}
+IsUsageOrUntold _ = ⊥
 
 -- the status is that of a device, which no command without cores has
 abbrev pub IsDevices : Status → Type 0

@@ -3,25 +3,23 @@ use Rattle.std.specs.Prelude.{ℕ, ◌==◌, Bool, List, ◌++◌, if◌then◌e
 use Rattle.pipe_ends.specs.Hex.{hex_text}
 use Rattle.partition_table.specs.declared.app.App.{App}
 use Rattle.partition_table.specs.declared.app.App.TheVariants.{Ota, Factory, Test}
-use Rattle.partition_table.specs.declared.table.TableBad.{TableBad}
-use Rattle.partition_table.specs.declared.table.TableBad.TheVariants.{Later}
+use Rattle.flash_cli.specs.TableText.{table_bad_text, csv_text}
 use Rattle.otadata.specs.declared.entry.Entry.{Entry}
-use Rattle.otadata.specs.declared.state.TheConstants.{NEW, PENDING_VERIFY, VALID, INVALID, ABORTED, UNDEFINED}
 use Rattle.otadata.specs.Choice.{is_valid}
 use Rattle.flash_cli.specs.declared.refusal.Refusal.{Refusal}
-use Rattle.flash_cli.specs.declared.refusal.Refusal.TheVariants.{Absent, FlashSize, Table}
-use Rattle.flash_cli.specs.declared.choose.Choice.{Choice}
-use Rattle.flash_cli.specs.Command.{name_at}
+use Rattle.flash_cli.specs.declared.refusal.Refusal.TheVariants.{Absent, FlashSize, TableLength, Table, Csv}
+use Rattle.flash_cli.specs.declared.choice.Choice.{Choice}
+use Rattle.flash_cli.specs.Command.{rows, joined}
 
 -- the name of a state that has one
 abbrev pub state_name : ℕ → Option (List ℕ)
 state_name state =
-    if state == NEW then Some (codes "NEW")
-    else (if state == PENDING_VERIFY then Some (codes "PENDING_VERIFY")
-    else (if state == VALID then Some (codes "VALID")
-    else (if state == INVALID then Some (codes "INVALID")
-    else (if state == ABORTED then Some (codes "ABORTED")
-    else (if state == UNDEFINED then Some (codes "UNDEFINED") else None)))))
+    if state == 0 then Some (codes "NEW")
+    else (if state == 1 then Some (codes "PENDING_VERIFY")
+    else (if state == 2 then Some (codes "VALID")
+    else (if state == 3 then Some (codes "INVALID")
+    else (if state == 4 then Some (codes "ABORTED")
+    else (if state == 4294967295 then Some (codes "UNDEFINED") else None)))))
 
 -- a state by this name, or else by its number in 8 hex digits
 abbrev pub name_or_number : Option (List ℕ) → ℕ → List ℕ
@@ -56,20 +54,18 @@ names_line app = codes "names " ++ app_text app ++ codes "\n"
 unfoldable pub choice_text : Choice → List ℕ
 choice_text choice = entry_line 0 choice.first ++ entry_line 1 choice.second ++ names_line choice.app
 
--- what is wrong with a table
-abbrev pub table_text : TableBad → List ℕ
-table_text Later = codes "table later"
-
--- what a refusal says, of a command that reads files of these names
-abbrev pub refusal_text : List (List ℕ) → Refusal → List ℕ
-refusal_text names (Absent file) = codes "absent " ++ name_at names file
-refusal_text names (FlashSize size) = codes "flash size " ++ decimal size
-refusal_text names (Table why) = table_text why
+-- what a refusal says; the name is that of the absent file
+abbrev pub refusal_text : List ℕ → Refusal → List ℕ
+refusal_text name (Absent file) = codes "absent " ++ name
+refusal_text name (FlashSize size) = codes "flash size " ++ decimal size
+refusal_text name (TableLength length) = codes "table length " ++ decimal length
+refusal_text name (Table why) = table_bad_text why
+refusal_text name (Csv number why) = csv_text number why
 
 -- the line of a refusal
-unfoldable pub refusal_line : List (List ℕ) → Refusal → List ℕ
-refusal_line names why = codes "refused: " ++ refusal_text names why ++ codes "\n"
+unfoldable pub refusal_line : List ℕ → Refusal → List ℕ
+refusal_line name why = codes "refused: " ++ refusal_text name why ++ codes "\n"
 
--- the line that says how the program is called
+-- the line that says how the program is called: the words of the table
 unfoldable pub usage_line : List ℕ
-usage_line = codes "usage: flash_cli choose\n"
+usage_line = codes "usage: flash_cli " ++ joined rows ++ codes "\n"

@@ -1,111 +1,39 @@
-//! The command `choose`: from the bytes of a flash to what its OTA data choose.
+//! The command `choose FLASH`.
 
-ghost use Rattle.std.specs.Prelude.{◌≡◌, ◌≤◌, ◌+◌, ◌*◌, ◌<◌, ◌^◌, length, slice_range, IfOk};
-ghost use Rattle.nor_device.specs.declared.step.TheConstants.{SECTOR_SIZE};
-ghost use Rattle.otadata.specs.Entry.{entry_of};
-ghost use Rattle.flash_cli.specs.Choose.{choice_of, choice_in, layout_in};
+ghost use Rattle.std.specs.Prelude.{◌≡◌, ◌≤◌};
 ghost use Rattle.flash_cli.specs.Command.{Choose};
-ghost use Rattle.flash_cli.specs.Report.{IsEnd, Gives, text_of_choice};
+ghost use Rattle.flash_cli.specs.Choose.{choose_answer};
+ghost use Rattle.flash_cli.specs.Report.{IsEnd, IsWorkedOut, reading_of};
 
-use crate::files::read_file;
-use crate::refusal::Refusal;
-use crate::stop::Stop;
+use crate::answer::Answer;
+use crate::choice::choose;
+use crate::error::CommandError;
+use crate::files::needed_file;
 use crate::text::put_choice;
-use boot_select::named;
-use nor_device::{SECTOR_SIZE, is_flash_size};
-use otadata::Entry;
-use partition_table::{App, Layout, TABLE_OFFSET, TABLE_SIZE, Table, TableBad};
 use pipe_ends::Store;
 use std::alloc::Global;
-
-/// Both entries of the OTA data as they stand, and the application that they name.
-#[derive(Clone, Copy, Debug, PartialEq, Eq)]
-pub(crate) struct Choice {
-    pub(crate) first: Entry,
-    pub(crate) second: Entry,
-    pub(crate) app: App,
-}
-
-/// What the OTA data of a flash choose, or the first reason why that can't be told: the size of the
-/// flash, then its partition table.
-#[tactic(auto, unfolding(crate::specs::Choose::choice_of))]
-pub(crate) fn choose(flash: &[u8]) -> Result<Choice, Refusal>
-    ensures { result ≡ choice_of flash.now }
-{
-    if !is_flash_size(flash.len()) {
-        return Err(Refusal::FlashSize {
-            size: flash.len() as u64,
-        });
-    }
-    match layout_of(flash) {
-        Ok(layout) => Ok(choice_in(flash, &layout)),
-        Err(why) => Err(Refusal::Table(why)),
-    }
-}
 
 /// Carries out `choose`: the lines of what the OTA data choose, or why there are none.
 pub(crate) fn run_choose<S: Store>(
     alloc: Global,
     store: &mut S,
-    name: &str,
-) -> Result<Vec<u8>, Stop>
-    ensures ended { IsEnd (S.files store.old) (Choose name.now)
+    flash: &str,
+) -> Result<Answer, CommandError>
+    ensures exact { IsEnd (S.files store.old) 0 (reading_of (Choose flash.now))
         (S.faults store.old) (S.faults store.new) result }
-    ensures files { S.files store.new ≡ S.files store.old }
+    ensures same { S.files store.new ≡ S.files store.old }
+    ensures later { S.faults store.old ≤ S.faults store.new }
 {
-    match read_file(alloc, store, name)? {
-        None => Err(Stop::Refused(Refusal::Absent { file: 0 })),
-        Some(flash) => choice_lines(alloc, &flash),
-    }
+    let flash = needed_file(alloc, store, 0, flash)?;
+    choose_lines(alloc, &flash)
 }
 
 /// The lines of what the OTA data of a flash choose.
-fn choice_lines(alloc: Global, flash: &[u8]) -> Result<Vec<u8>, Stop>
-    ensures { Gives result (text_of_choice (choice_of flash.now)) }
+fn choose_lines(alloc: Global, flash: &[u8]) -> Result<Answer, CommandError>
+    ensures exact { IsWorkedOut (choose_answer flash.now) result }
 {
     let choice = choose(flash)?;
     let mut text = Vec::new(alloc);
     put_choice(&mut text, &choice)?;
-    Ok(text)
-}
-
-/// The layout of a flash by the table at 0x8000.
-#[tactic(auto, unfolding(crate::specs::Choose::layout_in))]
-fn layout_of(flash: &[u8]) -> Result<Layout, TableBad>
-    requires least { 0x100000 ≤ length flash.now }
-    requires most { length flash.now ≤ 0x1000000 }
-    ensures exact { result ≡ layout_in flash.now }
-    ensures within { IfOk result (λ layout. layout.otadata + 2 * SECTOR_SIZE ≤ length flash.now) }
-{
-    let at = TABLE_OFFSET as usize;
-    let mut bytes = [0; TABLE_SIZE];
-    bytes.copy_from_slice(&flash[at..at + TABLE_SIZE]);
-    let table = Table::read(&bytes, flash.len() as u32)?;
-    table.layout()
-}
-
-/// What the OTA data of a flash with this layout choose.
-#[tactic(auto, unfolding(crate::specs::Choose::choice_in))]
-fn choice_in(flash: &[u8], layout: &Layout) -> Choice
-    requires { layout.now.otadata + 2 * SECTOR_SIZE ≤ length flash.now }
-    ensures { result ≡ choice_in flash.now layout.now }
-{
-    let otadata = layout.otadata as usize;
-    let first = entry_at(flash, otadata);
-    let second = entry_at(flash, otadata + SECTOR_SIZE as usize);
-    Choice {
-        first,
-        second,
-        app: named(layout, &first, &second),
-    }
-}
-
-/// The entry whose 32 bytes begin at this place.
-fn entry_at(flash: &[u8], at: usize) -> Entry
-    requires { at + 32 ≤ length flash.now }
-    ensures { result ≡ entry_of (slice_range flash.now at (at + 32)) }
-{
-    let mut bytes = [0; 32];
-    bytes.copy_from_slice(&flash[at..at + 32]);
-    Entry::read(&bytes)
+    Ok(Answer::text_only(alloc, text))
 }

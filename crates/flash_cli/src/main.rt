@@ -1,12 +1,18 @@
 //! The program `flash_cli`: what the flash of a dual-core ESP32 holds, as its bootloader reads it.
 #![tactic(auto)]
 
+mod answer;
+mod choice;
 mod choose;
 mod command;
+mod error;
 mod files;
+mod laws;
 mod refusal;
 mod status;
-mod stop;
+mod table_make;
+mod table_show;
+mod table_text;
 #[cfg(test)]
 mod tests;
 mod text;
@@ -19,7 +25,7 @@ use std::env;
 use std::io::{self, ErrorKind};
 use std::process::ExitCode;
 
-/// The words behind the program's name.
+/// The words after the program's name.
 fn words(rt: &HostRuntime) -> io::Result<Vec<String>> {
     Ok(env::args(rt)?.skip(1).collect::<Vec<String>>(rt.alloc())?)
 }

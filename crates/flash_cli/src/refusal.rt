@@ -1,5 +1,6 @@
 //! Why a command is refused.
 
+use part_csv::CsvWhy;
 use partition_table::TableBad;
 
 /// Why a command is refused: what is wrong in the files that it reads.
@@ -9,6 +10,10 @@ pub(crate) enum Refusal {
     Absent { file: u32 },
     /// The file isn't as long as a flash, which has 1, 2, 4, 8 or 16 MiB.
     FlashSize { size: u64 },
-    /// The flash has no partition table.
+    /// The file isn't as long as a table, which has 3,072 bytes.
+    TableLength { length: u64 },
+    /// The flash or the file has no partition table.
     Table(TableBad),
+    /// The record of this number, from 1, of a table's source is wrong.
+    Csv { number: u64, why: CsvWhy },
 }

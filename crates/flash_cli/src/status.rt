@@ -29,7 +29,7 @@ pub(crate) enum Status {
 impl Status {
     /// The code with which the program ends.
     pub(crate) fn code(self) -> u8
-        ensures { result ≡ code_of self }
+        ensures exact { result ≡ code_of self }
     {
         match self {
             Status::Done => 0,

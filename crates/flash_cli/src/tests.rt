@@ -1,11 +1,12 @@
 //! Rows from outside: the status and the text of the program on words, a flash, and failing ends.
 
+use crate::error::Failure;
+use crate::files::put_files;
 use crate::refusal::Refusal;
 use crate::status::Status;
 use crate::top::plain;
-use otadata::state::{ABORTED, INVALID, NEW, PENDING_VERIFY, UNDEFINED, VALID};
 use partition_table::TableBad;
-use pipe_ends::{File, MemSink, MemStore};
+use pipe_ends::{File, GetFault, MemSink, MemStore, Store};
 use std::alloc::{AllocError, Global};
 use std::test::Fail;
 
@@ -17,6 +18,24 @@ const PARTITIONS: [(u8, u8, u32, u32); 6] = [
     (0, 0x00, 0x10000, 0x100000),
     (0, 0x10, 0x110000, 0x100000),
     (0, 0x11, 0x210000, 0x100000),
+];
+
+/// The states of an entry.
+const NEW: u32 = 0;
+
+const PENDING_VERIFY: u32 = 1;
+
+const VALID: u32 = 2;
+
+const INVALID: u32 = 3;
+
+const ABORTED: u32 = 4;
+
+const UNDEFINED: u32 = 0xFFFF_FFFF;
+
+/// The MD5 digest of the rows of these partitions, without labels, by Python's `hashlib.md5`.
+const DIGEST: [u8; 16] = [
+    0x59, 0x7B, 0x3B, 0x1A, 0x25, 0xDB, 0x86, 0x2A, 0x81, 0x51, 0xE6, 0xD3, 0x48, 0x53, 0xCC, 0xFA,
 ];
 
 /// Sequence, state and CRC of an entry.
@@ -34,7 +53,7 @@ const THIRD: Numbers = (3, VALID, 0xED4A5011);
 /// No byte of the flash is changed.
 const UNCHANGED: (usize, u8) = (usize::MAX, 0);
 
-const USAGE: &str = "usage: flash_cli choose\n";
+const USAGE: &str = "usage: flash_cli choose|table-make|table-show\n";
 
 const BLANK_LINES: &str = "entry 0 seq 4294967295 state UNDEFINED invalid
 entry 1 seq 4294967295 state UNDEFINED invalid
@@ -103,6 +122,7 @@ fn flash_of(alloc: Global, row: &Row<'_>) -> Result<Vec<u8>, AllocError> {
         write(&mut flash, at + 8, &size.to_le_bytes());
     }
     write(&mut flash, 0x80C0, &[0xEB, 0xEB]);
+    write(&mut flash, 0x80D0, &DIGEST);
     for (i, (seq, state, crc)) in row.entries.iter().enumerate() {
         let at = 0xD000 + 0x1000 * i;
         write(&mut flash, at, &seq.to_le_bytes());
@@ -138,8 +158,8 @@ fn answer(alloc: Global, row: &Row<'_>) -> Result<(Status, MemSink), AllocError>
 }
 
 /// The rows.
-fn rows<'a>() -> [Row<'a>; 18] {
-    let later = Status::Refused(Refusal::Table(TableBad::Later));
+fn rows<'a>() -> [Row<'a>; 21] {
+    let magic = Status::Refused(Refusal::Table(TableBad::Magic { row: 5 }));
     let absent = Status::Refused(Refusal::Absent { file: 0 });
     let short = Status::Refused(Refusal::FlashSize { size: 3 });
     [
@@ -178,8 +198,8 @@ fn rows<'a>() -> [Row<'a>; 18] {
         ),
         Row {
             change: (0x80A0, 0x00),
-            status: later,
-            ..worded(&["choose", "F0"], later, "refused: table later\n")
+            status: magic,
+            ..worded(&["choose", "F0"], magic, "refused: table magic row 5\n")
         },
         Row {
             size: 3,
@@ -192,6 +212,7 @@ fn rows<'a>() -> [Row<'a>; 18] {
         worded(&["choose", ""], Status::Usage, USAGE),
         worded(&["choose", "-F0"], Status::Usage, USAGE),
         worded(&["chose", "F0"], Status::Usage, USAGE),
+        worded(&["choos", "F0"], Status::Usage, USAGE),
         Row {
             failing_gets: &[1],
             ..worded(&["choose", "F0"], Status::StoreFault, "")
@@ -199,6 +220,14 @@ fn rows<'a>() -> [Row<'a>; 18] {
         Row {
             failing_pushes: &[1],
             ..worded(&["choose", "F0"], Status::SinkFault, "")
+        },
+        Row {
+            failing_gets: &[2],
+            ..done("a second get would fail", [ERASED, ERASED], BLANK_LINES)
+        },
+        Row {
+            failing_pushes: &[2],
+            ..done("a second push would fail", [ERASED, ERASED], BLANK_LINES)
         },
     ]
 }
@@ -214,7 +243,7 @@ fn each_row_has_its_status_and_its_text(rt: HostRuntime) -> Result<(), Fail> {
     Ok(())
 }
 
-/// Whether the answer is the row's, or want of memory.
+/// Whether the answer is the row's, or out of memory.
 fn is_row_or_memory(alloc: Global, row: &Row<'_>) -> bool {
     match answer(alloc, row) {
         Ok((status, _sink)) => status == row.status || status == Status::Memory,
@@ -223,10 +252,187 @@ fn is_row_or_memory(alloc: Global, row: &Row<'_>) -> bool {
 }
 
 #[test]
-fn a_refused_allocation_is_want_of_memory(rt: HostRuntime) {
+fn a_refused_allocation_is_out_of_memory(rt: HostRuntime) {
     for row in rows() {
         let holds = is_row_or_memory(rt.alloc(), &row);
         let why = row.why;
         assert_eq!(rt; holds, true, "status: {why}");
     }
+}
+
+/// A file of this name with these bytes.
+fn file_of(alloc: Global, name: &str, bytes: &[u8]) -> Result<File, AllocError> {
+    Ok(File {
+        name: String::from_str(alloc, name)?,
+        bytes: Vec::from_slice(alloc, bytes)?,
+    })
+}
+
+#[test]
+fn a_put_that_fails_leaves_those_before_it(rt: HostRuntime) -> Result<(), Fail> {
+    let alloc = rt.alloc();
+    let mut files = Vec::new(alloc);
+    for (name, bytes) in [("A", b"first"), ("B", b"other"), ("C", b"third")] {
+        files.push(file_of(alloc, name, bytes.as_slice())?)?;
+    }
+    for (failing, put, wanted) in [
+        (0, Ok(()), [true, true, true]),
+        (1, Err(Failure::Store), [false, false, false]),
+        (2, Err(Failure::Store), [true, false, false]),
+        (3, Err(Failure::Store), [true, true, false]),
+    ] {
+        let mut store = MemStore::new(Vec::new(alloc), Vec::from_slice(alloc, &[failing])?);
+        assert_eq!(rt;
+            put_files(alloc, &mut store, &files),
+            put,
+            "put {failing} fails"
+        );
+        for (file, wanted) in files.iter().zip(wanted) {
+            let bytes = store.get(alloc, file.name.as_str());
+            let name = file.name.as_str();
+            match bytes {
+                Ok(bytes) => {
+                    assert_eq!(rt; wanted, true, "{name}, where put {failing} fails");
+                    assert_eq!(rt; bytes.as_slice(), file.bytes.as_slice(), "{name}");
+                }
+                Err(why) => {
+                    assert_eq!(rt; wanted, false, "{name}, where put {failing} fails");
+                    assert_eq!(rt; why, GetFault::Absent, "{name}");
+                }
+            }
+        }
+    }
+    Ok(())
+}
+
+/// The source of a table with a factory application and two slots.
+const SOURCE: &str = "# Name, Type, SubType, Offset, Size, Flags
+nvs, data, nvs, , 0x4000,
+otadata, data, ota, , 0x2000,
+phy_init, data, phy, , 0x1000,
+factory, app, factory, , 1M,
+ota_0, app, ota_0, , 1M,
+ota_1, app, ota_1, , 1M,
+";
+
+/// The lines of its table.
+const LINES: &str = "nvs 1 0x02 0x00009000 0x00004000 0x00000000
+otadata 1 0x00 0x0000D000 0x00002000 0x00000000
+phy_init 1 0x01 0x0000F000 0x00001000 0x00000000
+factory 0 0x00 0x00010000 0x00100000 0x00000000
+ota_0 0 0x10 0x00110000 0x00100000 0x00000000
+ota_1 0 0x11 0x00210000 0x00100000 0x00000000
+";
+
+/// The MD5 digest of its rows, by Python's `hashlib.md5`.
+const LABELLED_DIGEST: [u8; 16] = [
+    0xBF, 0x25, 0x82, 0x2C, 0x0F, 0xA6, 0xD8, 0x64, 0x1B, 0xD9, 0x30, 0x25, 0x1E, 0x06, 0xB4, 0xC4,
+];
+
+/// A store with one file.
+fn store_of(alloc: Global, name: &str, bytes: &[u8]) -> Result<MemStore, AllocError> {
+    let file = File {
+        name: String::from_str(alloc, name)?,
+        bytes: Vec::from_slice(alloc, bytes)?,
+    };
+    let mut files = Vec::new(alloc);
+    files.push(file)?;
+    Ok(MemStore::new(files, Vec::new(alloc)))
+}
+
+/// The status of a call with these words on a store, and what it pushed.
+fn called(
+    alloc: Global,
+    words: &[&str],
+    store: &mut MemStore,
+) -> Result<(Status, MemSink), AllocError> {
+    let mut sink = MemSink::new(alloc, Vec::new(alloc));
+    let words = words_of(alloc, words)?;
+    let status = plain(alloc, &words, store, &mut sink);
+    Ok((status, sink))
+}
+
+#[test]
+fn a_table_is_made_of_its_source_and_shown(rt: HostRuntime) -> Result<(), Fail> {
+    let alloc = rt.alloc();
+    let mut store = store_of(alloc, "t.csv", SOURCE.as_bytes())?;
+    let (status, sink) = called(alloc, &["table-make", "t.csv", "T"], &mut store)?;
+    assert_eq!(rt; status, Status::Done, "table-make");
+    assert_eq!(rt; sink.bytes(), b"rows 6\n".as_slice(), "what it prints");
+    let table = store.get(alloc, "T")?;
+    assert_eq!(rt; table.len(), 3072, "the length of a table");
+    assert_eq!(rt;
+        &table[..16],
+        b"\xAA\x50\x01\x02\x00\x90\x00\x00\x00\x40\x00\x00nvs\x00".as_slice(),
+        "the first row"
+    );
+    assert_eq!(rt;
+        &table[192..208],
+        b"\xEB\xEB\xFF\xFF\xFF\xFF\xFF\xFF\xFF\xFF\xFF\xFF\xFF\xFF\xFF\xFF".as_slice(),
+        "the mark of the digest"
+    );
+    assert_eq!(rt; &table[208..224], LABELLED_DIGEST.as_slice(), "the digest");
+    assert_eq!(rt; &table[224..], [0xFF; 2848].as_slice(), "the end row");
+    let (status, sink) = called(alloc, &["table-show", "T"], &mut store)?;
+    assert_eq!(rt; status, Status::Done, "table-show");
+    assert_eq!(rt; sink.bytes(), LINES.as_bytes(), "what it prints of it");
+    Ok(())
+}
+
+/// A refused call on a store with the one file F.
+#[derive(Clone, Copy)]
+struct RefusedCall<'a> {
+    words: &'a [&'a str],
+    file: &'a [u8],
+    text: &'a str,
+}
+
+/// The refused calls.
+fn refused_calls<'a>() -> [RefusedCall<'a>; 6] {
+    [
+        RefusedCall {
+            words: &["table-show", "F"],
+            file: &[0xFF; 100],
+            text: "refused: table length 100\n",
+        },
+        RefusedCall {
+            words: &["table-show", "F"],
+            file: &[0xFF; 3072],
+            text: "refused: table md5 row 0\n",
+        },
+        RefusedCall {
+            words: &["table-show", "F"],
+            file: &[0; 3072],
+            text: "refused: table magic row 0\n",
+        },
+        RefusedCall {
+            words: &["table-show", "G"],
+            file: &[0; 3072],
+            text: "refused: absent G\n",
+        },
+        RefusedCall {
+            words: &["table-make", "F", "T"],
+            file: b"a, data, nvs, 0x9000, 0x2000,\nb, data, nvs, 0xA000, 0x1000,",
+            text: "refused: table overlap rows 0 1\n",
+        },
+        RefusedCall {
+            words: &["table-make", "F", "T"],
+            file: b"a, app, , , 1M,",
+            text: "refused: csv record 1 subtype\n",
+        },
+    ]
+}
+
+#[test]
+fn tables_and_sources_are_refused_by_name(rt: HostRuntime) -> Result<(), Fail> {
+    for row in refused_calls() {
+        let text = row.text;
+        let mut store = store_of(rt.alloc(), "F", row.file)?;
+        let (status, sink) = called(rt.alloc(), row.words, &mut store)?;
+        assert_eq!(rt; status.code(), 2, "the status: {text}");
+        assert_eq!(rt; sink.bytes(), text.as_bytes(), "the text: {text}");
+        let put = store.get(rt.alloc(), "T");
+        assert_eq!(rt; put, Err(GetFault::Absent), "nothing is put: {text}");
+    }
+    Ok(())
 }

@@ -1,22 +1,20 @@
 //! The lines that the program prints.
 
-ghost use Rattle.std.specs.Prelude.{◌≡◌, ◌≤◌, ◌++◌, OnOk, codes, option_copied, decimal, List, ℕ};
-ghost use Rattle.flash_cli.specs.Text.{state_name, state_text, app_text, verdict_text, entry_line, names_line, choice_text, refusal_line, table_text};
-ghost use Rattle.flash_cli.specs.Command.{names_of, shown};
+ghost use Rattle.std.specs.Prelude.{◌≡◌, ◌≤◌, ◌++◌, OnOk, codes, map, option_copied, decimal, List, ℕ};
+ghost use Rattle.flash_cli.specs.Text.{state_name, state_text, app_text, verdict_text, entry_line, names_line, choice_text, refusal_line, refusal_text, usage_line};
+ghost use Rattle.flash_cli.specs.Command.{joined, shown_row};
 
-use crate::choose::Choice;
-use crate::command::Command;
+use crate::choice::Choice;
+use crate::command::{Row, table};
 use crate::refusal::Refusal;
+use crate::table_text::{put_csv, put_table_bad};
 use otadata::{Entry, state};
-use partition_table::{App, TableBad};
+use partition_table::App;
 use pipe_ends::{Memory, put_hex, put_number};
-
-/// The line that says how the program is called.
-pub(crate) const USAGE: &str = "usage: flash_cli choose\n";
 
 /// Appends a text.
 pub(crate) fn put_text(out: &mut Vec<u8>, text: &str) -> Result<(), Memory>
-    ensures { OnOk result (out.new.items ≡ out.old.items ++ text.now) }
+    ensures ok { OnOk result (out.new.items ≡ out.old.items ++ text.now) }
 {
     out.extend_from_slice(text.as_bytes())?;
     Ok(())
@@ -25,7 +23,7 @@ pub(crate) fn put_text(out: &mut Vec<u8>, text: &str) -> Result<(), Memory>
 /// Appends the lines of a choice: both entries, and the application that they name.
 #[tactic(auto, unfolding(crate::specs::Text::choice_text))]
 pub(crate) fn put_choice(out: &mut Vec<u8>, choice: &Choice) -> Result<(), Memory>
-    ensures { OnOk result (out.new.items ≡ out.old.items ++ choice_text choice.now) }
+    ensures ok { OnOk result (out.new.items ≡ out.old.items ++ choice_text choice.now) }
 {
     put_entry(out, 0, &choice.first)?;
     put_entry(out, 1, &choice.second)?;
@@ -35,7 +33,7 @@ pub(crate) fn put_choice(out: &mut Vec<u8>, choice: &Choice) -> Result<(), Memor
 /// Appends the line of the entry in this sector.
 #[tactic(auto, unfolding(crate::specs::Text::entry_line))]
 fn put_entry(out: &mut Vec<u8>, sector: u64, entry: &Entry) -> Result<(), Memory>
-    ensures { OnOk result (out.new.items ≡ out.old.items ++ entry_line sector entry.now) }
+    ensures ok { OnOk result (out.new.items ≡ out.old.items ++ entry_line sector entry.now) }
 {
     put_text(out, "entry ")?;
     put_number(out, sector)?;
@@ -51,7 +49,7 @@ fn put_entry(out: &mut Vec<u8>, sector: u64, entry: &Entry) -> Result<(), Memory
 /// Appends a state by its name, or by its number in 8 hex digits where it has none.
 #[tactic(auto, unfolding(crate::specs::Text::state_text))]
 fn put_state(out: &mut Vec<u8>, number: u32) -> Result<(), Memory>
-    ensures { OnOk result (out.new.items ≡ out.old.items ++ state_text number) }
+    ensures ok { OnOk result (out.new.items ≡ out.old.items ++ state_text number) }
 {
     match state_name(number) {
         Some(name) => put_text(out, name),
@@ -61,7 +59,7 @@ fn put_state(out: &mut Vec<u8>, number: u32) -> Result<(), Memory>
 
 /// The name of a state that has one.
 fn state_name(number: u32) -> Option<&'static str>
-    ensures { option_copied result ≡ state_name number }
+    ensures exact { option_copied result ≡ state_name number }
 {
     match number {
         state::NEW => Some("NEW"),
@@ -77,7 +75,7 @@ fn state_name(number: u32) -> Option<&'static str>
 /// Appends the line that names an application.
 #[tactic(auto, unfolding(crate::specs::Text::names_line))]
 fn put_names(out: &mut Vec<u8>, app: App) -> Result<(), Memory>
-    ensures { OnOk result (out.new.items ≡ out.old.items ++ names_line app) }
+    ensures ok { OnOk result (out.new.items ≡ out.old.items ++ names_line app) }
 {
     put_text(out, "names ")?;
     put_app(out, app)?;
@@ -87,7 +85,7 @@ fn put_names(out: &mut Vec<u8>, app: App) -> Result<(), Memory>
 /// Appends an application's name.
 #[tactic(auto, unfolding(crate::specs::Text::app_text))]
 fn put_app(out: &mut Vec<u8>, app: App) -> Result<(), Memory>
-    ensures { OnOk result (out.new.items ≡ out.old.items ++ app_text app) }
+    ensures ok { OnOk result (out.new.items ≡ out.old.items ++ app_text app) }
 {
     match app {
         App::Ota(slot) => {
@@ -99,36 +97,61 @@ fn put_app(out: &mut Vec<u8>, app: App) -> Result<(), Memory>
     }
 }
 
-/// Appends the line of a refusal of a command.
+/// Appends the line of a refusal. The name is that of the absent file.
 #[tactic(auto, unfolding(crate::specs::Text::refusal_line))]
-pub(crate) fn put_refusal(
-    out: &mut Vec<u8>,
-    command: Command<'_>,
-    why: Refusal,
-) -> Result<(), Memory>
-    ensures { OnOk result (out.new.items
-        ≡ out.old.items ++ refusal_line (names_of (shown command.entry)) why) }
+pub(crate) fn put_refusal(out: &mut Vec<u8>, name: &str, why: Refusal) -> Result<(), Memory>
+    ensures ok { OnOk result (out.new.items ≡ out.old.items ++ refusal_line name.now why) }
 {
     put_text(out, "refused: ")?;
-    match why {
-        Refusal::Absent { file } => {
-            put_text(out, "absent ")?;
-            put_text(out, command.name(file))?;
-        }
-        Refusal::FlashSize { size } => {
-            put_text(out, "flash size ")?;
-            put_number(out, size)?;
-        }
-        Refusal::Table(why) => put_text(out, table_text(why))?,
-    }
+    put_reason(out, name, why)?;
     put_text(out, "\n")
 }
 
-/// What is wrong with a table.
-fn table_text(why: TableBad) -> &'static str
-    ensures { result.now ≡ table_text why }
+/// Appends words and a number.
+pub(crate) fn put_numbered(out: &mut Vec<u8>, text: &str, number: u64) -> Result<(), Memory>
+    ensures ok { OnOk result (out.new.items ≡ out.old.items ++ (text.now ++ decimal number)) }
+{
+    put_text(out, text)?;
+    put_number(out, number)
+}
+
+/// Appends what a refusal says. The name is that of the absent file.
+fn put_reason(out: &mut Vec<u8>, name: &str, why: Refusal) -> Result<(), Memory>
+    ensures ok { OnOk result (out.new.items ≡ out.old.items ++ refusal_text name.now why) }
 {
     match why {
-        TableBad::Later => "table later",
+        Refusal::Absent { .. } => {
+            put_text(out, "absent ")?;
+            put_text(out, name)
+        }
+        Refusal::FlashSize { size } => put_numbered(out, "flash size ", size),
+        Refusal::TableLength { length } => put_numbered(out, "table length ", length),
+        Refusal::Table(why) => put_table_bad(out, why),
+        Refusal::Csv { number, why } => put_csv(out, number, why),
+    }
+}
+
+/// Appends the line that says how the program is called: the words of the table of commands.
+#[tactic(auto, unfolding(crate::specs::Text::usage_line))]
+pub(crate) fn put_usage(out: &mut Vec<u8>) -> Result<(), Memory>
+    ensures ok { OnOk result (out.new.items ≡ out.old.items ++ usage_line) }
+{
+    put_text(out, "usage: flash_cli ")?;
+    put_words(out, &table())?;
+    put_text(out, "\n")
+}
+
+/// Appends the words of rows of the table of commands, with a bar between two.
+fn put_words(out: &mut Vec<u8>, rows: &[Row]) -> Result<(), Memory>
+    ensures ok { OnOk result (out.new.items ≡ out.old.items ++ joined (map shown_row rows.now)) }
+{
+    match rows {
+        [] => Ok(()),
+        [row] => put_text(out, row.word),
+        [row, more @ ..] => {
+            put_text(out, row.word)?;
+            put_text(out, "|")?;
+            put_words(out, more)
+        }
     }
 }

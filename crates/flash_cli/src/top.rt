@@ -1,112 +1,136 @@
 //! The program as a function of its words, a store of files and a sink of text.
 
-ghost use Rattle.std.specs.Prelude.{◌≡◌, None, IfOk, IfErr};
+ghost use Rattle.std.specs.Prelude.{◌≡◌, ◌≤◌, IfOk, IfErr, IsSome};
 ghost use Rattle.pipe_ends.specs.Fault.{Rose};
 ghost use Rattle.flash_cli.specs.Command.{asked, shown};
-ghost use Rattle.flash_cli.specs.Status.{IsWork, IsCutShort, IsWorkOrMemory, IsUsageOrCutShort, IsDevices};
-ghost use Rattle.flash_cli.specs.Report.{HasCause, IsEnd, IsDone, IsUsageOrMemory, IsOutcomeIn, IsReported, IsPartlyReported};
+ghost use Rattle.flash_cli.specs.Answer.{shown_outcome, usage_outcome, refused_outcome};
+ghost use Rattle.flash_cli.specs.Status.{IsWork, IsDevices};
+ghost use Rattle.flash_cli.specs.Report.{IsOutcome, EndsWhole, EndsBeforeText, EndsInText, EndsEarly, IsCountedFailure, IsCommandsFailure, IsEnd, reading_of};
 
+use crate::answer::{Answer, Finished};
 use crate::choose::run_choose;
 use crate::command::Command;
+use crate::error::{CommandError, Failure};
+use crate::files::put_files;
+use crate::refusal::Refusal;
 use crate::status::Status;
-use crate::stop::{Halt, Stop};
-use crate::text::{USAGE, put_refusal, put_text};
+use crate::table_make::run_table_make;
+use crate::table_show::run_table_show;
+use crate::text::{put_refusal, put_usage};
 use pipe_ends::{PushFault, Sink, Store};
 use std::alloc::Global;
 
-/// Carries out the command that the words are: reads its files from the store, and pushes its whole
-/// text in one call at the end. Words that are no command push the line that says how the program is
-/// called.
+/// Carries out the command that the words are: reads its files from the store, puts its files in
+/// order, and pushes its whole text in one call at the end. Words that are no command push the line
+/// that says how the program is called.
 ///
-/// `choose FLASH` prints both entries of the flash's OTA data and the application that they name. It
-/// is refused where the store has no such file, where the file isn't as long as a flash, and where the
-/// flash has no partition table.
+/// A refused command puts nothing. A put that fails leaves those before it, and ends the command
+/// without a push. A push that fails leaves every file that was put.
 pub(crate) fn plain<S: Store, K: Sink>(
     alloc: Global,
     words: &[String],
     store: &mut S,
     out: &mut K,
 ) -> Status
-    // Words that are no command are a matter of usage, and nothing else is.
-    ensures usage { result ≡ Status.Usage → asked words.now ≡ None }
-    ensures no_command { asked words.now ≡ None → IsUsageOrCutShort result }
+    // Status, files and text are those of the command on the files that it read, which are the
+    // store's where it tells them.
+    ensures work { IsWork result → EndsWhole (S.files store.old) (asked words.now) result
+        (S.files store.new) (K.pushed out.old) (K.pushed out.new) }
 
-    // Status and text are those of the command on the files that it read, the store's where it tells
-    // them.
-    ensures work { IsWork result
-        → IsReported (S.files store.old) (asked words.now) result (K.pushed out.old) (K.pushed out.new) }
-    ensures told { IsWork result → IsOutcomeIn (S.files store.old) (asked words.now) result }
-    ensures cut_short { IsCutShort result
-        → IsPartlyReported (S.files store.old) (asked words.now) (K.pushed out.old) (K.pushed out.new) }
+    // What stands after a call that came to no end of its own.
+    ensures unput { result ≡ Status.StoreFault → EndsBeforeText (S.files store.old) (asked words.now)
+        (S.files store.new) (K.pushed out.old) (K.pushed out.new) }
+    ensures untold { result ≡ Status.SinkFault → EndsInText (S.files store.old) (asked words.now)
+        (S.files store.new) (K.pushed out.old) (K.pushed out.new) }
+    ensures memory { result ≡ Status.Memory → EndsEarly (S.files store.old) (asked words.now)
+        (S.files store.new) (K.pushed out.old) (K.pushed out.new) }
 
-    // A fault has its cause: without one the work's status is the answer, want of memory aside.
-    ensures store_fault { result ≡ Status.StoreFault → Rose (S.faults store.old) (S.faults store.new) }
-    ensures silent { result ≡ Status.StoreFault → K.pushed out.new ≡ K.pushed out.old }
+    // A fault has its cause, and a store fault comes only of a command. No device takes part.
+    ensures store_fault { result ≡ Status.StoreFault
+        → Rose (S.faults store.old) (S.faults store.new) }
     ensures sink_fault { result ≡ Status.SinkFault → Rose (K.faults out.old) (K.faults out.new) }
-    ensures faultless { ¬ Rose (S.faults store.old) (S.faults store.new)
-        → ¬ Rose (K.faults out.old) (K.faults out.new) → IsWorkOrMemory result }
-
-    // No device takes part, and no file is put.
+    ensures command { result ≡ Status.StoreFault → IsSome (asked words.now) }
     ensures no_device { ¬ IsDevices result }
-    ensures files { S.files store.new ≡ S.files store.old }
 {
-    match work(alloc, words, store) {
-        Ok(done) => match out.push(alloc, &done.text) {
-            Ok(()) => done.status,
-            Err(PushFault::Failed) => Status::SinkFault,
-            Err(PushFault::Memory) => Status::Memory,
-        },
-        Err(Halt::Store) => Status::StoreFault,
-        Err(Halt::Memory) => Status::Memory,
+    let finished = match work(alloc, words, store) {
+        Ok(finished) => finished,
+        Err(failure) => return failure.status(),
+    };
+    if let Err(failure) = put_files(alloc, store, &finished.answer.puts) {
+        return failure.status();
+    }
+    match out.push(alloc, &finished.answer.text) {
+        Ok(()) => finished.status,
+        Err(PushFault::Failed) => Status::SinkFault,
+        Err(PushFault::Memory) => Status::Memory,
     }
 }
 
-/// What the words come to, before their text is pushed.
-#[derive(Debug, Drop)]
-struct Finished {
-    status: Status,
-    text: Vec<u8>,
-}
-
-/// Does the work of the words, but for the push.
-fn work<S: Store>(alloc: Global, words: &[String], store: &mut S) -> Result<Finished, Halt>
-    ensures done { IfOk result
-        (λ done. IsDone (S.files store.old) (asked words.now) done.status done.text.items) }
-    ensures no_command { asked words.now ≡ None → IsUsageOrMemory result }
-    ensures cause { IfErr result (HasCause (S.faults store.old) (S.faults store.new)) }
-    ensures files { S.files store.new ≡ S.files store.old }
+/// Does the work of the words: all but the puts and the push.
+fn work<S: Store>(alloc: Global, words: &[String], store: &mut S) -> Result<Finished, Failure>
+    ensures ok { IfOk result
+        (λ finished. IsOutcome (S.files store.old) (asked words.now) (shown_outcome finished)) }
+    ensures cause { IfErr result (IsCountedFailure (S.faults store.old) (S.faults store.new)) }
+    ensures command { IfErr result (IsCommandsFailure (asked words.now)) }
+    ensures same { S.files store.new ≡ S.files store.old }
+    ensures later { S.faults store.old ≤ S.faults store.new }
 {
-    let mut text = Vec::new(alloc);
     let Some(command) = Command::read(words) else {
-        put_text(&mut text, USAGE)?;
-        return Ok(Finished {
-            status: Status::Usage,
-            text,
-        });
+        return usage(alloc);
     };
     match carry_out(alloc, command, store) {
-        Ok(text) => Ok(Finished {
+        Ok(answer) => Ok(Finished {
             status: Status::Done,
-            text,
+            answer,
         }),
-        Err(Stop::Refused(why)) => {
-            put_refusal(&mut text, command, why)?;
-            Ok(Finished {
-                status: Status::Refused(why),
-                text,
-            })
+        Err(CommandError::Absent { file, name }) => {
+            refused(alloc, name.as_str(), Refusal::Absent { file })
         }
-        Err(Stop::Halted(halt)) => Err(halt),
+        Err(CommandError::Refused(why)) => refused(alloc, "", why),
+        Err(CommandError::Failed(failure)) => Err(failure),
     }
 }
 
-/// Carries out a command: its text, or why there is none.
-fn carry_out<S: Store>(alloc: Global, command: Command<'_>, store: &mut S) -> Result<Vec<u8>, Stop>
-    ensures ended { IsEnd (S.files store.old) (shown command.entry)
+/// What words that are no command come to.
+fn usage(alloc: Global) -> Result<Finished, Failure>
+    ensures ok { IfOk result (λ finished. shown_outcome finished ≡ usage_outcome) }
+    ensures cause { IfErr result (λ failure. failure ≡ Failure.Memory) }
+{
+    let mut text = Vec::new(alloc);
+    put_usage(&mut text)?;
+    Ok(Finished {
+        status: Status::Usage,
+        answer: Answer::text_only(alloc, text),
+    })
+}
+
+/// What a refused command comes to. The name is that of the absent file.
+fn refused(alloc: Global, name: &str, why: Refusal) -> Result<Finished, Failure>
+    ensures ok { IfOk result (λ finished. shown_outcome finished ≡ refused_outcome name.now why) }
+    ensures cause { IfErr result (λ failure. failure ≡ Failure.Memory) }
+{
+    let mut text = Vec::new(alloc);
+    put_refusal(&mut text, name, why)?;
+    Ok(Finished {
+        status: Status::Refused(why),
+        answer: Answer::text_only(alloc, text),
+    })
+}
+
+/// Carries out a command: its answer, or why there is none.
+fn carry_out<S: Store>(
+    alloc: Global,
+    command: Command<'_>,
+    store: &mut S,
+) -> Result<Answer, CommandError>
+    ensures exact { IsEnd (S.files store.old) 0 (reading_of (shown command.entry))
         (S.faults store.old) (S.faults store.new) result }
-    ensures files { S.files store.new ≡ S.files store.old }
+    ensures same { S.files store.new ≡ S.files store.old }
+    ensures later { S.faults store.old ≤ S.faults store.new }
 {
     match command {
         Command::Choose { flash } => run_choose(alloc, store, flash),
+        Command::TableMake { csv, out } => run_table_make(alloc, store, csv, out),
+        Command::TableShow { file } => run_table_show(alloc, store, file),
     }
 }

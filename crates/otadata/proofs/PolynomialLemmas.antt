@@ -49,7 +49,8 @@ length-plus (a ∷ p) (b ∷ q) e = let rest = length-plus p q (omega arith) in 
 -- ---- lengths
 
 -- a multiple by a coefficient and a power
-pub length-raised : (b : Bool) (p : List Bool) (n : ℕ) → length (raised (scaled b p) n) ≡ length p + n
+pub length-raised : (b : Bool) (p : List Bool) (n : ℕ)
+    → length (raised (scaled b p) n) ≡ length p + n
 length-raised b p n =
     let whole = length-append (scaled b p) (replicate n false) in
     let front = length-map p (λ a. b && a) in
@@ -69,11 +70,13 @@ length-times [] low = let e = length-replicate (suc (length low) - 1) false in o
 length-times (b ∷ q) low =
     let rest = length-times q low in
     let first = length-raised b low (length q) in
-    let same = length-plus (raised (scaled b low) (length q)) (times q (true ∷ low)) (omega arith) in
+    let same = length-plus (raised (scaled b low) (length q)) (times q (true ∷ low)) (omega arith)
+    in
     omega arith
 
 -- what division leaves
-pub length-left_after : (n : ℕ) (p low : List Bool) → length p ≡ n + length low → length (left_after n p (true ∷ low)) ≡ length low
+pub length-left_after : (n : ℕ) (p low : List Bool) → length p ≡ n + length low
+    → length (left_after n p (true ∷ low)) ≡ length low
 unfolding left_after
 length-left_after zero p low e = omega arith
 length-left_after (suc n) [] low e = absurd (omega arith)
@@ -105,8 +108,11 @@ left_after-sum (b ∷ q) low r e =
     let w_long : length w ≡ length q + length r = length-widened (length q) r in
     let rest_long : length (plus t w) ≡ length t = length-plus t w (omega arith) in
     let undone : plus (plus (plus m t) w) m ≡ plus t w =
-    ap (λ (x : List Bool). plus x m) (plus_assoc m t w) ∙ plus_assoc m (plus t w) m ∙ plus_twice m (plus t w) (omega arith) in
-    let P : Bool → Type 0 = λ h. left_after (length q) (plus (plus (plus m t) w) (raised (scaled h low) (length q))) (true ∷ low) ≡ r in
+    ap (λ (x : List Bool). plus x m) (plus_assoc m t w) ∙ plus_assoc m (plus t w) m
+    ∙ plus_twice m (plus t w) (omega arith) in
+    let P : Bool
+    → Type 0 = λ h. left_after (length q)
+    (plus (plus (plus m t) w) (raised (scaled h low) (length q))) (true ∷ low) ≡ r in
     subst P (sym (leads b)) (rw undone (left_after-sum q low r e))
 
 -- the quotient of long division: the coefficients at which the divisor was taken away
@@ -116,7 +122,8 @@ quotient_of (suc n) [] low = []
 quotient_of (suc n) (b ∷ p) low = b ∷ quotient_of n (plus p (raised (scaled b low) n)) low
 
 -- it has a coefficient for each step
-length-quotient_of : (n : ℕ) (p low : List Bool) → length p ≡ n + length low → length (quotient_of n p low) ≡ n
+length-quotient_of : (n : ℕ) (p low : List Bool) → length p ≡ n + length low
+    → length (quotient_of n p low) ≡ n
 unfolding quotient_of
 length-quotient_of zero p low e = refl
 length-quotient_of (suc n) [] low e = absurd (omega arith)
@@ -143,16 +150,19 @@ sum-left_after (suc n) (b ∷ p) low e =
     let t = times q (true ∷ low) in
     let w = widened n (left_after n (plus p m) (true ∷ low)) in
     let rest : plus p m ≡ plus t w = sum-left_after n (plus p m) low (omega arith) in
-    let whole : plus (plus m t) w ≡ p = plus_assoc m t w ∙ ap (λ (x : List Bool). plus m x) (sym rest) ∙ plus_twice m p (omega arith) in
+    let whole : plus (plus m t) w ≡ p = plus_assoc m t w
+    ∙ ap (λ (x : List Bool). plus m x) (sym rest) ∙ plus_twice m p (omega arith) in
     rw (steps, leads b, whole) refl
 
 -- a division leaves a remainder, which long division finds
-pub remainder-exists : (p d : List Bool) → IsMonic d → length d ≤ length p + 1 → IsRemainder p d (remainder p d)
+pub remainder-exists : (p d : List Bool) → IsMonic d → length d ≤ length p + 1
+    → IsRemainder p d (remainder p d)
 remainder-exists p d monic enough =
     let P : List Bool → Type 0 = λ x. length x ≤ length p + 1 → IsRemainder p x (remainder p x) in
     subst P (sym monic.leads) (λ fits. exists p monic.rest fits) enough
   where
-    exists : (p low : List Bool) → suc (length low) ≤ length p + 1 → IsRemainder p (true ∷ low) (remainder p (true ∷ low))
+    exists : (p low : List Bool) → suc (length low) ≤ length p + 1
+        → IsRemainder p (true ∷ low) (remainder p (true ∷ low))
     exists p low fits =
         let n = length p + 1 - suc (length low) in
         let long : length p ≡ n + length low = omega arith in

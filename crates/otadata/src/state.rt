@@ -1,5 +1,5 @@
-//! The states of an entry that have a name (ESP-IDF, `esp_ota_img_states_t`). Every other number is a
-//! state too.
+//! The states of an entry that have a name (ESP-IDF, `esp_ota_img_states_t`). Every other number is
+//! a state too.
 
 ghost use Rattle.std.specs.Prelude.{◌≡◌};
 

@@ -1,7 +1,10 @@
-pub mod Sides
 pub mod MachineSteps
+pub mod Stories
+pub mod Sides
 pub mod Exchanges
+pub mod Events
 pub mod TurnSteps
 pub mod Seats
 pub mod May
 pub mod OneMachine
+pub mod Giving

@@ -1,5 +1,5 @@
 -- Each event as a step of the machine of two cores, the core of the event named first.
-use Rattle.std.proofs.Common.{◌≡◌, ◌≢◌, ℕ, zero, suc, ◌+◌, ◌<◌, ◌≤◌, refl, Option, Some, None, arith}
+use Rattle.std.proofs.Common.{◌≡◌, ◌≢◌, ℕ, zero, suc, ◌+◌, ◌<◌, ◌≤◌, ◌⊎◌, inl, inr, sym, subst, refl, Option, Some, None, arith}
 use Rattle.std.specs.Prelude.{IsSome, IsNone}
 use Rattle.std.specs.Int.{IsBitSet}
 use Rattle.core_state.specs.declared.registers.Regs.{Regs}
@@ -9,11 +9,42 @@ use Rattle.duo_machine.specs.declared.machine.Gate.{Gate}
 use Rattle.duo_machine.specs.declared.machine.Gate.TheVariants.{Rest as AtRest, Run, Asked, Parked as AtParked, Freed, Held}
 use Rattle.duo_machine.specs.declared.machine.Phase.{Phase}
 use Rattle.duo_machine.specs.declared.machine.Phase.TheVariants.{Resting, Running, Owning, Asking, Quiet, Parked}
+use Rattle.duo_machine.specs.declared.machine.Machine.{Machine}
+use Rattle.duo_machine.specs.declared.events.Kind.{Kind}
 use Rattle.duo_machine.specs.declared.events.Kind.TheVariants.{Start, Rest, Take, Give, Save, Back, Hold, Ask, Park, See, Begin, Done, End, Leave, Set, Fetch}
 use Rattle.duo_machine.specs.Machine.{KeepsAway, let_go}
-use Rattle.duo_machine.specs.Table.{IsAwake, bit_of}
-use Rattle.park_words.specs.Told.{Steps}
-use Rattle.park_words.proofs.Sides.{machine_by}
+use Rattle.duo_machine.specs.Table.{Allows, changed, IsAwake, bit_of}
+use Rattle.park_words.specs.Story.{machine_of}
+
+-- the machine makes this event of the core, or none
+abbrev pub Steps : Machine → ℕ → Option Kind → Machine → Type 0
+Steps m c None n = n ≡ m
+Steps m c (Some kind) n = Allows m c kind × (n ≡ changed m c kind)
+
+-- the machine of two cores, the first named being this one
+abbrev pub machine_by :
+    ℕ → ℕ → Gate → Gate → Phase → Phase → Record → Record → Option ℕ → Machine
+machine_by zero lock g g' p p' r r' run = machine_of lock g g' p p' r r' run
+machine_by (suc c) lock g g' p p' r r' run = machine_of lock g' g p' p r' r run
+
+-- the two are core 0 and core 1
+abbrev pub Apart : ℕ → ℕ → Type 0
+Apart c o = ((c ≡ 0) × (o ≡ 1)) ⊎ ((c ≡ 1) × (o ≡ 0))
+
+-- what holds of 0 and 1, and of 1 and 0, holds of the two cores
+pub by_two : (P : ℕ → ℕ → Type 0) (c o : ℕ) → Apart c o → P 0 1 → P 1 0 → P c o
+by_two P c o (inl e) a b =
+    subst (λ (z : ℕ × ℕ). P z.0 z.1) (λ k. (sym e.0 k, sym e.1 k)) a
+by_two P c o (inr e) a b =
+    subst (λ (z : ℕ × ℕ). P z.0 z.1) (λ k. (sym e.0 k, sym e.1 k)) b
+
+pub sum_one : (c o : ℕ) → Apart c o → c + o ≡ 1
+sum_one c o (inl e) = let a = e.0 in let b = e.1 in omega arith
+sum_one c o (inr e) = let a = e.0 in let b = e.1 in omega arith
+
+pub below_two : (c o : ℕ) → Apart c o → c < 2
+below_two c o (inl e) = let a = e.0 in omega arith
+below_two c o (inr e) = let a = e.0 in omega arith
 
 -- what holds of core 0 and of core 1 holds of each core
 pub by_core : (P : ℕ → Type 0) (c : ℕ) → c < 2 → P 0 → P 1 → P c

@@ -12,7 +12,7 @@ use Rattle.park_words.specs.declared.view.View.{View}
 use Rattle.park_words.specs.Views.{gate_word, held_gate}
 use Rattle.park_words.specs.Rule.{Ruled}
 use Rattle.park_words.specs.Told.{MayExchange, TellsExchange}
-use Rattle.park_words.proofs.Exchanges.{takes_lock, gives_lock, starts, rests, parks, leaves, asks, holds, ends}
+use Rattle.park_words.proofs.Events.{takes_lock, gives_lock, starts, rests, parks, leaves, asks, holds, ends}
 
 module _
     {S B D : Type 0}
@@ -70,7 +70,7 @@ module _
         (ap (λ v. v.core + i) e ∙ at) (ap (λ v. v.phase) e ∙ is)
         (subst (λ v. IsSome v.registers.saved) (sym e) saved)
 
-    pub may_end : (i from to : ℕ) → v.core + i ≡ 3 → v.phase ≡ Quiet → v.steps ≡ false
+    pub may_end : (i from to : ℕ) → v.core + i ≡ 3 → v.phase ≡ Quiet → v.stepping ≡ false
         → gate_word (held_gate v.held) ≡ from → gate_word (let_go (held_gate v.held)) ≡ to
         → MayExchange records runs stands End Owning false i from to v
     may_end i from to at is idle is_from is_to =
@@ -80,8 +80,8 @@ module _
         (λ u. Allows (Ruled records runs stands key) slots id me i
         (λ n. either (eqb n (gate_word (held_gate u.held)))
         (gate_word (let_go (held_gate u.held))) n)
-        (TellsExchange records runs stands End Owning false
+        (TellsExchange End Owning false
         (step slots i (gate_word (held_gate u.held))
         (gate_word (let_go (held_gate u.held))) none) me)) e
         (ends records runs stands key slots id me one i (ap (λ u. u.core + i) e ∙ at)
-        (ap (λ u. u.phase) e ∙ is) (ap (λ u. u.steps) e ∙ idle)))
+        (ap (λ u. u.phase) e ∙ is) (ap (λ u. u.stepping) e ∙ idle)))

@@ -1,9 +1,11 @@
--- Words and views stand for one machine, and it is safe.
+-- Words and views stand for one machine, it is safe, and so is the run that leads to it.
 use Rattle.std.proofs.Common.{◌≡◌, ℕ, ◌∙◌, ap, subst, sym, refl, Bool, true, false, List, [], ◌∷◌, slice_index, Option}
 use mathlib.Core.Option.{some-injective}
 use lib.ListN.{get_elem?}
 use Rattle.core_state.specs.declared.registers.Record.{Record}
-use Rattle.park_words.specs.Rule.{RunIs, machine_of, StandForOneSafeMachine}
+use Rattle.park_words.specs.Story.{machine_of}
+use Rattle.park_words.specs.Rule.{RunIs, StandForOneSafeMachine}
+use Rattle.park_words.proofs.Stories.{story_safe, stories_are_safe}
 use Rattle.park_words.proofs.Exchanges.{same_gate}
 
 -- the running step is told by the views
@@ -22,22 +24,19 @@ second_of a b c d e = some-injective b d (ap (λ vs. get_elem? vs 1) e)
 pub one_safe_machine : {S B D : Type 0} (records : S → ℕ → Record) (runs : S → Option ℕ)
     (stands : S → B → List D → List D → Type 0) → StandForOneSafeMachine records runs stands
 one_safe_machine records runs stands = λ s p q.
-    let words = sym p.words ∙ q.words in
+    let a = p.there in let b = q.there in
+    let words = sym a.numbers ∙ b.numbers in
     let views = sym p.views ∙ q.views in
     let lock = ap (λ ws. slice_index ws 0) words in
-    let gate = same_gate p.gate q.gate (ap (λ ws. slice_index ws 2) words) in
-    let gate' = same_gate p.gate' q.gate' (ap (λ ws. slice_index ws 3) words) in
+    let gate = same_gate a.gate b.gate (ap (λ ws. slice_index ws 2) words) in
+    let gate' = same_gate a.gate' b.gate' (ap (λ ws. slice_index ws 3) words) in
     let left = first_of p.left p.right q.left q.right views in
     let right = second_of p.left p.right q.left q.right views in
-    let run = one_run q.left.steps q.right.steps
-    (subst (λ (z : Bool × Bool). RunIs p.run 0 1 z.0 z.1)
-    (λ k. ((left k).steps, (right k).steps)) p.pairing.step) q.pairing.step in (
-      record {
-        two_cores = record { gates = refl; phases = refl; records = refl };
-        zero_safe =
-            p.pairing.safe;
-        one_safe = p.pairing.safe';
-      },
+    let run = one_run q.left.stepping q.right.stepping
+    (subst (λ (z : Bool × Bool). RunIs a.run 0 1 z.0 z.1)
+    (λ k. ((left k).stepping, (right k).stepping)) a.pairing.step) b.pairing.step in (
+      story_safe _ _ _ _ _ _ a.story,
       λ k. machine_of (lock k) (gate k) (gate' k) (left k).phase (right k).phase (left k).registers
           (right k).registers (run k),
+      stories_are_safe _ _ _ _ _ _ a.story,
     )

@@ -1,37 +1,83 @@
--- A state that meets the rule, as the core sees it whose seat makes a step; and the state after the step.
+-- A state that meets the rule, as the core sees it whose seat makes a step; and the state after the
+-- step.
 use Rattle.std.proofs.Common.{◌≡◌, ℕ, zero, suc, ◌+◌, ◌⊎◌, ◌∙◌, ap, subst, sym, refl, inl, inr, List, [], ◌∷◌, slice_set, slice_index, Option}
-use mathlib.Core.Option.{some, some-injective, some-ne-none}
+use mathlib.Core.Option.{some}
 use mathlib.Core.Option as maybe
 use lib.ListN.{get_elem?}
 use Rattle.core_state.specs.declared.registers.Record.{Record}
 use Rattle.atomic_table.specs.Table.{State}
 use Rattle.duo_machine.specs.declared.machine.Gate.{Gate}
 use Rattle.duo_machine.specs.declared.machine.Phase.{Phase}
-use Rattle.duo_machine.specs.declared.machine.Machine.{Machine}
+use Rattle.duo_machine.specs.Safe.{SafeAt, Safe}
 use Rattle.park_words.specs.declared.view.Stage.{Stage}
 use Rattle.park_words.specs.declared.view.Stage.TheVariants.{New, One, Both, Spent}
 use Rattle.park_words.specs.declared.view.View.{View}
 use Rattle.park_words.specs.Views.{gate_word, fresh, spent}
-use Rattle.park_words.specs.Rule.{RunIs, TurnIs, StandsFor, Pairing, Paired, Ruled, machine, machine_of}
+use Rattle.park_words.specs.Story.{machine_of, word_of, Story}
+use Rattle.park_words.specs.Rule.{RunIs, TurnIs, StandsFor, Pairing, Start, Pair, Joined, IsOne, IsBoth, Paired, Ruled}
+use Rattle.core_state.proofs.TwoSeats.{pair_at}
+use Rattle.park_words.proofs.MachineSteps.{machine_by, Apart, by_two}
+use Rattle.park_words.proofs.Stories.{story_safe, told_by_other}
 
--- the machine of two cores, the first named being this one
-abbrev pub machine_by : ℕ → ℕ → Gate → Gate → Phase → Phase → Record → Record → Option ℕ → Machine
-machine_by zero lock g g' p p' r r' run = machine_of lock g g' p p' r r' run
-machine_by (suc c) lock g g' p p' r r' run = machine_of lock g' g p' p r' r run
+-- the four words, the gate of the core named first
+abbrev pub row : ℕ → ℕ → ℕ → Gate → Gate → List ℕ
+row zero lock turn g g' = lock ∷ turn ∷ gate_word g ∷ gate_word g' ∷ []
+row (suc c) lock turn g g' = lock ∷ turn ∷ gate_word g' ∷ gate_word g ∷ []
 
--- what is written at a seat is read there
-pub set_at : {A : Type 0} (l : List A) (i : ℕ) (a b : A) → get_elem? l i ≡ some a
-    → get_elem? (slice_set l i b) i ≡ some b
-set_at [] i a b e = absurd (some-ne-none a (sym e))
-set_at (x ∷ xs) zero a b e = refl
-set_at (x ∷ xs) (suc i) a b e = set_at xs i a b e
+module _ (c o : ℕ) (apart : Apart c o) (lock turn : ℕ) (g g' : Gate) where
+  -- what stands in each word
+  pub lock_in_row : slice_index (row c lock turn g g') 0 ≡ lock
+  lock_in_row = by_two (λ c o. slice_index (row c lock turn g g') 0 ≡ lock) c o apart refl refl
 
--- to write what is there changes nothing
-pub set_same : {A : Type 0} (l : List A) (i : ℕ) (a : A) → get_elem? l i ≡ some a
-    → slice_set l i a ≡ l
-set_same [] i a e = refl
-set_same (x ∷ xs) zero a e = ap (λ y. y ∷ xs) (sym (some-injective x a e))
-set_same (x ∷ xs) (suc i) a e = ap (λ ys. x ∷ ys) (set_same xs i a e)
+  pub turn_in_row : slice_index (row c lock turn g g') 1 ≡ turn
+  turn_in_row = by_two (λ c o. slice_index (row c lock turn g g') 1 ≡ turn) c o apart refl refl
+
+  pub gate_in_row : slice_index (row c lock turn g g') (c + 2) ≡ gate_word g
+  gate_in_row = by_two (λ c o. slice_index (row c lock turn g g') (c + 2) ≡ gate_word g)
+      c o apart refl refl
+
+  pub other_in_row : slice_index (row c lock turn g g') (o + 2) ≡ gate_word g'
+  other_in_row = by_two (λ c o. slice_index (row c lock turn g g') (o + 2) ≡ gate_word g')
+      c o apart refl refl
+
+  -- the words with one of them written
+  pub with_lock : (n : ℕ) → slice_set (row c lock turn g g') 0 n ≡ row c n turn g g'
+  with_lock n = by_two (λ c o. slice_set (row c lock turn g g') 0 n ≡ row c n turn g g')
+      c o apart refl refl
+
+  pub with_turn : (n : ℕ) → slice_set (row c lock turn g g') 1 n ≡ row c lock n g g'
+  with_turn n = by_two (λ c o. slice_set (row c lock turn g g') 1 n ≡ row c lock n g g')
+      c o apart refl refl
+
+  pub with_gate : (h : Gate)
+      → slice_set (row c lock turn g g') (c + 2) (gate_word h) ≡ row c lock turn h g'
+  with_gate h = by_two
+      (λ c o. slice_set (row c lock turn g g') (c + 2) (gate_word h) ≡ row c lock turn h g')
+      c o apart refl refl
+
+  pub with_other : (h : Gate)
+      → slice_set (row c lock turn g g') (o + 2) (gate_word h) ≡ row c lock turn g h
+  with_other h = by_two
+      (λ c o. slice_set (row c lock turn g g') (o + 2) (gate_word h) ≡ row c lock turn g h)
+      c o apart refl refl
+
+  -- what stands in a word is told by the machine and the turn
+  pub words_of : (p p' : Phase) (r r' : Record) (run : Option ℕ) (i : ℕ)
+      → word_of (machine_by c lock g g' p p' r r' run) turn i
+      ≡ slice_index (row c lock turn g g') i
+  words_of p p' r r' run i = by_two
+      (λ c o. word_of (machine_by c lock g g' p p' r r' run) turn i
+      ≡ slice_index (row c lock turn g g') i)
+      c o apart (of_two g g' p p' r r' i) (of_two g' g p' p r' r i)
+    where
+      of_two : (g g' : Gate) (p p' : Phase) (r r' : Record) (i : ℕ)
+          → word_of (machine_of lock g g' p p' r r' run) turn i
+          ≡ slice_index (lock ∷ turn ∷ gate_word g ∷ gate_word g' ∷ []) i
+      of_two g g' p p' r r' zero = refl
+      of_two g g' p p' r r' (suc zero) = refl
+      of_two g g' p p' r r' (suc (suc zero)) = refl
+      of_two g g' p p' r r' (suc (suc (suc zero))) = refl
+      of_two g g' p p' r r' (suc (suc (suc (suc i)))) = refl
 
 -- to write a word as it is changes nothing
 pub word_same : (ws : List ℕ) (i : ℕ) → slice_set ws i (slice_index ws i) ≡ ws
@@ -45,23 +91,41 @@ turn_round t = record { own = t.other; other = t.own; at_most_two = t.at_most_tw
 run_round : {run : Option ℕ} {c o : ℕ} {a b : _} → RunIs run c o a b → RunIs run o c b a
 run_round r = record { own = r.other; other = r.own; none = λ a b. r.none b a }
 
+-- no two stages are one
+pub fresh_one : New ≡ One → ⊥
+fresh_one e = cc e
+
+pub spent_one : Spent ≡ One → ⊥
+spent_one e = cc e
+
+pub both_one : (stage : Stage) → stage ≡ Both → stage ≡ One → ⊥
+both_one stage b e = let bad : Both ≡ One = sym b ∙ e in cc bad
+
+pub fresh_both : New ≡ Both → ⊥
+fresh_both e = cc e
+
+pub spent_both : Spent ≡ Both → ⊥
+spent_both e = cc e
+
 module _
     {S B D : Type 0}
     (records : S → ℕ → Record) (runs : S → Option ℕ) (stands : S → B → List D → List D → Type 0)
   where
-    abbrev St : Type 0
+    abbrev pub St : Type 0
     St = State (Option S) (View B D)
 
-    abbrev Homes : Type 0
+    pub spent_fresh : ◌≡◌ {A = View B D} spent fresh → ⊥
+    spent_fresh e = let bad : Spent ≡ New = ap (λ x. x.stage) e in cc bad
+
+    abbrev pub Homes : Type 0
     Homes = List (maybe.Option (Option S))
 
     -- as core 0 sees it, so core 1 does
-    pub back : {lock turn : ℕ} {gate gate' : Gate} {run : Option ℕ} {homes : Homes} {v w : View B D}
-        → Pairing records runs stands 0 1 lock turn gate gate' run homes v w
-        → Pairing records runs stands 1 0 lock turn gate' gate run homes w v
+    pub back : {turn : ℕ} {gate gate' : Gate} {run : Option ℕ} {homes : Homes} {v w : View B D}
+        → Pairing records runs stands 0 1 turn gate gate' run homes v w
+        → Pairing records runs stands 1 0 turn gate' gate run homes w v
     back {v = v} {w = w} p = record {
       cores = (p.cores.1, p.cores.0);
-      stages = (p.stages.1, p.stages.0);
       bases = sym p.bases;
       step = run_round p.step;
       turns = turn_round p.turns;
@@ -76,19 +140,16 @@ module _
         stands_by = subst (λ (b : Option B). StandsFor stands h.value b v.share w.share) p.bases
             h.stands_by;
       };
-      safe = p.safe';
-      safe' = p.safe;
       knows = p.knows';
       knows' = p.knows;
     }
 
     -- as core 1 sees it, so core 0 does
-    pub fore : {lock turn : ℕ} {gate gate' : Gate} {run : Option ℕ} {homes : Homes} {v w : View B D}
-        → Pairing records runs stands 1 0 lock turn gate gate' run homes v w
-        → Pairing records runs stands 0 1 lock turn gate' gate run homes w v
+    pub fore : {turn : ℕ} {gate gate' : Gate} {run : Option ℕ} {homes : Homes} {v w : View B D}
+        → Pairing records runs stands 1 0 turn gate gate' run homes v w
+        → Pairing records runs stands 0 1 turn gate' gate run homes w v
     fore {v = v} {w = w} p = record {
       cores = (p.cores.1, p.cores.0);
-      stages = (p.stages.1, p.stages.0);
       bases = sym p.bases;
       step = run_round p.step;
       turns = turn_round p.turns;
@@ -103,268 +164,154 @@ module _
         stands_by = subst (λ (b : Option B). StandsFor stands h.value b w.share v.share) p.bases
             h.stands_by;
       };
-      safe = p.safe';
-      safe' = p.safe;
       knows = p.knows';
       knows' = p.knows;
     }
 
-    -- the state after one word became n, the slot these homes, and the seat's view v
-    abbrev pub after : State (Option S) (View B D) → ℕ → ℕ → ℕ → List (maybe.Option (Option S))
-        → View B D → State (Option S) (View B D)
-    after s id i n homes v =
-        record { words = slice_set s.words i n; homes = homes; views = slice_set s.views id v }
-
-    -- the state has two views and stands for this machine
-    abbrev pub Built : State (Option S) (View B D) → Machine → Type 0
-    Built s m = (p : Paired records runs stands s) × (machine records runs stands s p ≡ m)
+    -- the state with these words and slots, and with this view of the seat
+    abbrev pub at : St → ℕ → List ℕ → Homes → View B D → St
+    at s id ws hs v = record { words = ws; homes = hs; views = slice_set s.views id v }
 
     -- a state with two views, as the core c of this seat sees it
     pub record Side (s : State (Option S) (View B D)) (id : ℕ) (v : View B D) : Type 0 where
-      pub paired : Paired records runs stands s
       pub c : ℕ
       pub o : ℕ
-      pub apart : ((c ≡ 0) × (o ≡ 1)) ⊎ ((c ≡ 1) × (o ≡ 0))
+      pub apart : Apart c o
+      pub one : v.stage ≡ One
       pub lock : ℕ
       pub turn : ℕ
       pub gate : Gate
       pub gate' : Gate
       pub run : Option ℕ
       pub w : View B D
-      pub pairing : Pairing records runs stands c o lock turn gate gate' run s.homes v w
-      pub machine_is : machine records runs stands s paired
-          ≡ machine_by c lock gate gate' v.phase w.phase v.registers w.registers run
-      pub lock_is : slice_index s.words 0 ≡ lock
-      pub turn_is : slice_index s.words 1 ≡ turn
-      pub gate_is : slice_index s.words (c + 2) ≡ gate_word gate
-      pub gate_is' : slice_index s.words (o + 2) ≡ gate_word gate'
-      pub with_lock : (n : ℕ) (v' : View B D)
-          → Pairing records runs stands c o n turn gate gate' run s.homes v' w
-          → Built (after s id 0 n s.homes v')
-          (machine_by c n gate gate' v'.phase w.phase v'.registers w.registers run)
-      pub with_turn : (n : ℕ) (run' : Option ℕ) (homes : List (maybe.Option (Option S)))
-          (v' : View B D) → Pairing records runs stands c o lock n gate gate' run' homes v' w
-          → Built (after s id 1 n homes v')
-          (machine_by c lock gate gate' v'.phase w.phase v'.registers w.registers run')
-      pub with_gate : (g : Gate) (v' : View B D)
-          → Pairing records runs stands c o lock turn g gate' run s.homes v' w
-          → Built (after s id (c + 2) (gate_word g) s.homes v')
-          (machine_by c lock g gate' v'.phase w.phase v'.registers w.registers run)
-      pub with_gate' : (g : Gate) (v' : View B D)
-          → Pairing records runs stands c o lock turn gate g run s.homes v' w
-          → Built (after s id (o + 2) (gate_word g) s.homes v')
-          (machine_by c lock gate g v'.phase w.phase v'.registers w.registers run)
+      pub numbers : s.words ≡ row c lock turn gate gate'
+      pub pairing : Pairing records runs stands c o turn gate gate' run s.homes v w
+      pub story :
+          Story (machine_by c lock gate gate' v.phase w.phase v.registers w.registers run) turn c o
+          v.seen w.seen
+      -- whatever words, slots and the seat's view are then: where they fit, the state has two views
+      -- again
+      pub make : (ws : List ℕ) (hs : List (maybe.Option (Option S))) (l t : ℕ) (g g' : Gate)
+          (r : Option ℕ) (v' : View B D) → ws ≡ row c l t g g' → v'.stage ≡ One
+          → Pairing records runs stands c o t g g' r hs v' w
+          → Story (machine_by c l g g' v'.phase w.phase v'.registers w.registers r) t c o v'.seen
+          w.seen
+          → Paired records runs stands (at s id ws hs v')
 
     -- the state as the seat of core 0 sees it
     left_side : (s : St) (p : Paired records runs stands s) → Side s 0 p.left
-    left_side s p = record {
-      paired = p;
+    left_side s p = let q = p.there in record {
       c = 0;
       o = 1;
       apart = inl (refl, refl);
-      lock = p.lock;
-      turn = p.turn;
-      gate = p.gate;
-      gate' = p.gate';
-      run = p.run;
+      one = p.ones.0;
+      lock = q.lock;
+      turn = q.turn;
+      gate = q.gate;
+      gate' = q.gate';
+      run = q.run;
       w = p.right;
-      pairing = p.pairing;
-      machine_is = refl;
-      lock_is = ap (λ ws. slice_index ws 0) p.words;
-      turn_is = ap (λ ws. slice_index ws 1) p.words;
-      gate_is = ap (λ ws. slice_index ws 2) p.words;
-      gate_is' = ap (λ ws. slice_index ws 3) p.words;
-      with_lock = λ n v' q. (
-        record {
-          lock = n;
-          turn = p.turn;
-          gate = p.gate;
-          gate' = p.gate';
-          run = p.run;
-          left = v';
-          right = p.right;
-          words = ap (λ ws. slice_set ws 0 n) p.words;
-          views = ap (λ vs. slice_set vs 0 v') p.views;
-          pairing = q;
-        },
-        refl,
-      );
-      with_turn = λ n run' homes v' q. (
-        record {
-          lock = p.lock;
-          turn = n;
-          gate = p.gate;
-          gate' = p.gate';
-          run = run';
-          left = v';
-          right = p.right;
-          words = ap (λ ws. slice_set ws 1 n) p.words;
-          views = ap (λ vs. slice_set vs 0 v') p.views;
-          pairing = q;
-        },
-        refl,
-      );
-      with_gate = λ g v' q. (
-        record {
-          lock = p.lock;
-          turn = p.turn;
+      numbers = q.numbers;
+      pairing = q.pairing;
+      story = q.story;
+      make = λ ws hs l t g g' r v' is one pairs story. record {
+        left = v';
+        right = p.right;
+        views = ap (λ vs. slice_set vs 0 v') p.views;
+        ones = (one, p.ones.1);
+        there = record {
+          lock = l;
+          turn = t;
           gate = g;
-          gate' = p.gate';
-          run = p.run;
-          left = v';
-          right = p.right;
-          words = ap (λ ws. slice_set ws 2 (gate_word g)) p.words;
-          views = ap (λ vs. slice_set vs 0 v') p.views;
-          pairing = q;
-        },
-        refl,
-      );
-      with_gate' = λ g v' q. (
-        record {
-          lock = p.lock;
-          turn = p.turn;
-          gate = p.gate;
-          gate' = g;
-          run = p.run;
-          left = v';
-          right = p.right;
-          words = ap (λ ws. slice_set ws 3 (gate_word g)) p.words;
-          views = ap (λ vs. slice_set vs 0 v') p.views;
-          pairing = q;
-        },
-        refl,
-      );
+          gate' = g';
+          run = r;
+          numbers = is;
+          pairing = pairs;
+          story = story;
+        };
+      };
     }
 
     -- the state as the seat of core 1 sees it
     right_side : (s : St) (p : Paired records runs stands s) → Side s 1 p.right
-    right_side s p = record {
-      paired = p;
+    right_side s p = let q = p.there in record {
       c = 1;
       o = 0;
       apart = inr (refl, refl);
-      lock = p.lock;
-      turn = p.turn;
-      gate = p.gate';
-      gate' = p.gate;
-      run = p.run;
+      one = p.ones.1;
+      lock = q.lock;
+      turn = q.turn;
+      gate = q.gate';
+      gate' = q.gate;
+      run = q.run;
       w = p.left;
-      pairing = back p.pairing;
-      machine_is = refl;
-      lock_is = ap (λ ws. slice_index ws 0) p.words;
-      turn_is = ap (λ ws. slice_index ws 1) p.words;
-      gate_is = ap (λ ws. slice_index ws 3) p.words;
-      gate_is' = ap (λ ws. slice_index ws 2) p.words;
-      with_lock = λ n v' q. (
-        record {
-          lock = n;
-          turn = p.turn;
-          gate = p.gate;
-          gate' = p.gate';
-          run = p.run;
-          left = p.left;
-          right = v';
-          words = ap (λ ws. slice_set ws 0 n) p.words;
-          views = ap (λ vs. slice_set vs 1 v') p.views;
-          pairing = fore q;
-        },
-        refl,
-      );
-      with_turn = λ n run' homes v' q. (
-        record {
-          lock = p.lock;
-          turn = n;
-          gate = p.gate;
-          gate' = p.gate';
-          run = run';
-          left = p.left;
-          right = v';
-          words = ap (λ ws. slice_set ws 1 n) p.words;
-          views = ap (λ vs. slice_set vs 1 v') p.views;
-          pairing = fore q;
-        },
-        refl,
-      );
-      with_gate = λ g v' q. (
-        record {
-          lock = p.lock;
-          turn = p.turn;
-          gate = p.gate;
+      numbers = q.numbers;
+      pairing = back q.pairing;
+      story = told_by_other _ _ _ _ _ _ q.story;
+      make = λ ws hs l t g g' r v' is one pairs story. record {
+        left = p.left;
+        right = v';
+        views = ap (λ vs. slice_set vs 1 v') p.views;
+        ones = (p.ones.0, one);
+        there = record {
+          lock = l;
+          turn = t;
+          gate = g';
           gate' = g;
-          run = p.run;
-          left = p.left;
-          right = v';
-          words = ap (λ ws. slice_set ws 3 (gate_word g)) p.words;
-          views = ap (λ vs. slice_set vs 1 v') p.views;
-          pairing = fore q;
-        },
-        refl,
-      );
-      with_gate' = λ g v' q. (
-        record {
-          lock = p.lock;
-          turn = p.turn;
-          gate = g;
-          gate' = p.gate';
-          run = p.run;
-          left = p.left;
-          right = v';
-          words = ap (λ ws. slice_set ws 2 (gate_word g)) p.words;
-          views = ap (λ vs. slice_set vs 1 v') p.views;
-          pairing = fore q;
-        },
-        refl,
-      );
+          run = r;
+          numbers = is;
+          pairing = fore pairs;
+          story = told_by_other _ _ _ _ _ _ story;
+        };
+      };
     }
-
-    -- the one of two views at a seat
-    of_two : (s : St) (id : ℕ) (v : View B D) (p : Paired records runs stands s)
-        → get_elem? (p.left ∷ p.right ∷ []) id ≡ some v → Side s id v
-    of_two s zero v p e = subst (λ x. Side s 0 x) (some-injective p.left v e) (left_side s p)
-    of_two s (suc zero) v p e =
-        subst (λ x. Side s 1 x) (some-injective p.right v e) (right_side s p)
-    of_two s (suc (suc id)) v p e = absurd (some-ne-none v (sym e))
-
-    -- a state with two views, as the core sees it whose seat this is
-    pub side_of : (s : State (Option S) (View B D)) (id : ℕ) (v : View B D)
-        → Paired records runs stands s → get_elem? s.views id ≡ some v → Side s id v
-    side_of s id v p at = of_two s id v p (subst (λ xs. get_elem? xs id ≡ some v) p.views at)
-
-    -- no seat of one view or of two ended ones has the stage of one core
-    not_of_one : (u : View B D) (id : ℕ) (v : View B D) → u.stage ≡ New → v.stage ≡ One
-        → get_elem? (u ∷ []) id ≡ some v → ⊥
-    not_of_one u zero v new one e = let bad : New ≡ One = sym new
-        ∙ (ap (λ x. x.stage) (some-injective u v e) ∙ one) in cc bad
-    not_of_one u (suc id) v new one e = some-ne-none v (sym e)
-
-    neither : (a b : View B D) (id : ℕ) (v : View B D) → (a.stage ≡ One → ⊥) → (b.stage ≡ One → ⊥)
-        → v.stage ≡ One → get_elem? (a ∷ b ∷ []) id ≡ some v → ⊥
-    neither a b zero v not not' one e = not (ap (λ x. x.stage) (some-injective a v e) ∙ one)
-    neither a b (suc zero) v not not' one e = not' (ap (λ x. x.stage) (some-injective b v e) ∙ one)
-    neither a b (suc (suc id)) v not not' one e = some-ne-none v (sym e)
-
-    both_is_not_one : (stage : Stage) → stage ≡ Both → stage ≡ One → ⊥
-    both_is_not_one stage b e = let bad : Both ≡ One = sym b ∙ e in cc bad
-
-    spent_is_not_one : Spent ≡ One → ⊥
-    spent_is_not_one e = cc e
-
-    at_views : (s : St) (id : ℕ) (v : View B D) (vs : List (View B D)) → s.views ≡ vs
-        → get_elem? s.views id ≡ some v → get_elem? vs id ≡ some v
-    at_views s id v vs e at = subst (λ xs. get_elem? xs id ≡ some v) e at
 
     -- a state that meets the rule, as the core sees it whose seat this is
     pub side : (key : S) (s : State (Option S) (View B D)) (id : ℕ) (v : View B D)
         → Ruled records runs stands key s → v.stage ≡ One → get_elem? s.views id ≡ some v
         → Side s id v
-    side key s id v (inl f) one at =
-        absurd (not_of_one fresh id v refl one (at_views s id v _ f.views at))
-    side key s id v (inr (inl p)) one at = side_of s id v p at
-    side key s id v (inr (inr j)) one at = absurd (ended j.cores)
+    side key s id v r one found =
+        of_place (pair_at fresh spent IsOne IsBoth
+        (Start records runs stands key) (Pair records runs stands) (Joined records runs stands)
+        fresh_one spent_one (λ v. both_one v.stage) fresh_both spent_both spent_fresh s id v r one
+        found)
       where
-        ended : ((j.c ≡ 0) × (j.o ≡ 1) × (s.views ≡ j.both ∷ spent ∷ []))
-            ⊎ ((j.c ≡ 1) × (j.o ≡ 0) × (s.views ≡ spent ∷ j.both ∷ [])) → ⊥
-        ended (inl e) = neither j.both spent id v
-            (both_is_not_one j.both.stage j.stage.0) spent_is_not_one one (at_views s id v _ e.2 at)
-        ended (inr e) = neither spent j.both id v spent_is_not_one
-            (both_is_not_one j.both.stage j.stage.0) one (at_views s id v _ e.2 at)
+        of_place : (p : Paired records runs stands s)
+            × (((id ≡ 0) × (p.left ≡ v)) ⊎ ((id ≡ 1) × (p.right ≡ v))) → Side s id v
+        of_place (p, inl e) = subst (λ (z : ℕ × View B D). Side s z.0 z.1)
+            (λ k. (sym e.0 k, e.1 k)) (left_side s p)
+        of_place (p, inr e) = subst (λ (z : ℕ × View B D). Side s z.0 z.1)
+            (λ k. (sym e.0 k, e.1 k)) (right_side s p)
+
+    module _ (s : State (Option S) (View B D)) (id : ℕ) (v : View B D) (d : Side s id v) where
+      -- its machine is safe for either core
+      pub safe_own : SafeAt d.c d.lock d.gate v.phase d.w.phase v.registers d.run
+      safe_own = by_two
+          (λ c o. Safe (machine_by c d.lock d.gate d.gate' v.phase d.w.phase v.registers
+          d.w.registers d.run) → SafeAt c d.lock d.gate v.phase d.w.phase v.registers d.run)
+          d.c d.o d.apart (λ x. x.zero_safe) (λ x. x.one_safe)
+          (story_safe _ _ _ _ _ _ d.story)
+
+      pub safe_other : SafeAt d.o d.lock d.gate' d.w.phase v.phase d.w.registers d.run
+      safe_other = by_two
+          (λ c o. Safe (machine_by c d.lock d.gate d.gate' v.phase d.w.phase v.registers
+          d.w.registers d.run) → SafeAt o d.lock d.gate' d.w.phase v.phase d.w.registers d.run)
+          d.c d.o d.apart (λ x. x.one_safe) (λ x. x.zero_safe)
+          (story_safe _ _ _ _ _ _ d.story)
+
+      -- what stands in the words
+      pub lock_is : slice_index s.words 0 ≡ d.lock
+      lock_is = ap (λ ws. slice_index ws 0) d.numbers
+          ∙ lock_in_row d.c d.o d.apart d.lock d.turn d.gate d.gate'
+
+      pub turn_is : slice_index s.words 1 ≡ d.turn
+      turn_is = ap (λ ws. slice_index ws 1) d.numbers
+          ∙ turn_in_row d.c d.o d.apart d.lock d.turn d.gate d.gate'
+
+      pub gate_is : slice_index s.words (d.c + 2) ≡ gate_word d.gate
+      gate_is = ap (λ ws. slice_index ws (d.c + 2)) d.numbers
+          ∙ gate_in_row d.c d.o d.apart d.lock d.turn d.gate d.gate'
+
+      pub gate_is' : slice_index s.words (d.o + 2) ≡ gate_word d.gate'
+      gate_is' = ap (λ ws. slice_index ws (d.o + 2)) d.numbers
+          ∙ other_in_row d.c d.o d.apart d.lock d.turn d.gate d.gate'

@@ -1,3 +1,4 @@
 pub mod Views
+pub mod Story
 pub mod Rule
 pub mod Told

@@ -9,6 +9,7 @@ use Rattle.duo_machine.specs.declared.machine.Gate.TheVariants.{Rest, Run, Asked
 use Rattle.duo_machine.specs.declared.machine.Phase.{Phase}
 use Rattle.duo_machine.specs.declared.machine.Phase.TheVariants.{Resting}
 use Rattle.park_words.specs.declared.view.Stage.TheVariants.{New, One, Both, Spent}
+use Rattle.park_words.specs.declared.view.Entry.{Entry}
 use Rattle.park_words.specs.declared.view.View.{View}
 
 -- the number that a gate's word has
@@ -57,7 +58,7 @@ module _ {B D : Type 0} where
     core = 0;
     phase = Resting;
     registers = starting;
-    steps = false;
+    stepping = false;
     share = [];
     base = None;
     turn = false;
@@ -65,6 +66,8 @@ module _ {B D : Type 0} where
     other_share = [];
     running = None;
     held = false;
+    seen = [];
+    other_seen = [];
   }
 
   -- the view of a core as its seat is dealt
@@ -75,45 +78,66 @@ module _ {B D : Type 0} where
   abbrev pub IsIdle : TableId → Seated B D → Type 0
   IsIdle words s = (s.table ≡ words) × (s.view.phase ≡ Resting) × (s.view.turn ≡ false)
 
-  -- what a seat knows in another phase, and whether it holds the other core at rest
-  abbrev pub moved : View B D → Phase → Bool → View B D
-  moved v phase held = record v { phase = phase; held = held }
+  -- what a seat knows in another phase, and whether it holds the other core at rest, by this run
+  abbrev pub moved : View B D → Phase → Bool → List Entry → View B D
+  moved v phase held seen = record v { phase = phase; held = held; seen = seen }
+
+  -- what a seat knows that saw this run and did nothing
+  abbrev pub saw : View B D → List Entry → View B D
+  saw v seen = record v { seen = seen }
 
   -- what a seat knows once it has taken the turn
-  abbrev pub with_turn : View B D → Record → List D → Option ℕ → View B D
-  with_turn v other other_share running =
-      record v { turn = true; other = other; other_share = other_share; running = running }
+  abbrev pub with_turn : View B D → Record → List D → Option ℕ → List Entry → View B D
+  with_turn v other other_share running seen =
+      record v {
+        turn = true;
+        other = other;
+        other_share = other_share;
+        running = running;
+        seen = seen;
+      }
 
-  -- what a seat knows once it has given the turn back, with its registers, the running step and its share
-  abbrev pub without_turn : View B D → Record → Option ℕ → List D → View B D
-  without_turn v registers running share =
+  -- what a seat knows once it has given the turn back, with its registers, the running step and its
+  -- share
+  abbrev pub without_turn : View B D → Record → Option ℕ → List D → List Entry → View B D
+  without_turn v registers running share seen =
       record v {
         registers = registers;
-        steps = is_step_of v.core running;
+        stepping = is_step_of v.core running;
         share = share;
-        turn =
-            false;
+        turn = false;
+        seen = seen;
       }
 
   -- the view of a seat that took in the other one's
   abbrev pub both_of : View B D → View B D → View B D
-  both_of v w = record v { stage = Both; other = w.registers; other_share = w.share }
+  both_of v w =
+      record v {
+        stage = Both;
+        other = w.registers;
+        other_share = w.share;
+        other_seen = w.seen;
+      }
 
   -- the view that the other seat is left with
   abbrev pub spent : View B D
   spent = record (fresh) { stage = Spent }
 
   -- the seat in another phase, and whether it holds the other core at rest
-  abbrev pub seat_moved : Seated B D → Phase → Bool → Seated B D
-  seat_moved s phase held = record s { view = moved s.view phase held }
+  abbrev pub seat_moved : Seated B D → Phase → Bool → List Entry → Seated B D
+  seat_moved s phase held seen = record s { view = moved s.view phase held seen }
+
+  -- the seat that saw this run and did nothing
+  abbrev pub seat_saw : Seated B D → List Entry → Seated B D
+  seat_saw s seen = record s { view = saw s.view seen }
 
   -- the seat in another phase, holding no core at rest
-  abbrev pub in_phase : Seated B D → Phase → Seated B D
-  in_phase s phase = seat_moved s phase false
+  abbrev pub in_phase : Seated B D → Phase → List Entry → Seated B D
+  in_phase s phase seen = seat_moved s phase false seen
 
   -- the seat in another phase, holding the other core at rest
-  abbrev pub in_phase_holding : Seated B D → Phase → Seated B D
-  in_phase_holding s phase = seat_moved s phase true
+  abbrev pub in_phase_holding : Seated B D → Phase → List Entry → Seated B D
+  in_phase_holding s phase seen = seat_moved s phase true seen
 
 -- a core's seat, as the core itself keeps it: what it knows of its own, and what it has in hand
 pub record IsKept

@@ -1,10 +1,10 @@
 //! The one step that most calls are: an exchange on a word that makes an event, or changes nothing.
 ghost use Rattle.std.specs.Prelude.{◌≡◌, ◌<◌, OnOk, OnErr, IfErr};
-ghost use Rattle.park_words.specs.Views.{gate_word, gate_place, seat_moved};
-ghost use Rattle.park_words.specs.Told.{AtWord, SawWord, AtGate, SawGate, MayExchange, MayPass};
+ghost use Rattle.park_words.specs.Views.{gate_word, gate_place, seat_moved, seat_saw};
+ghost use Rattle.park_words.specs.Told.{Makes, SawWord, SawGate, MayExchange, MayPass};
 
-use crate::events::{Exchange, Happening};
 use crate::seat::{CoreSeat, Seen};
+use crate::steps::{Exchange, GateEvent};
 use crate::words::Words;
 use core_state::Records;
 use duo_machine::{Gate, Phase};
@@ -33,7 +33,7 @@ pub(crate) fn gate_number(gate: Gate) -> u64
 
 impl<V: Records> Words<V> {
     /// An exchange on a word, from the number that is awaited.
-    pub(crate) fn exchange<E: Happening>(
+    pub(crate) fn exchange<E: GateEvent>(
         &self,
         seat: &mut CoreSeat<V>,
         word: usize,
@@ -45,11 +45,12 @@ impl<V: Records> Words<V> {
         requires table { seat.old.table ≡ self.now }
         requires word { word < 4 }
         requires event { (phase ≡ E.phase) × (held ≡ E.held) }
-        requires may { MayExchange V.records V.runs V.stands E.kind E.phase E.held word awaited next seat.old.view }
-        ensures moved { OnOk result (seat.new ≡ seat_moved seat.old phase held) }
-        ensures event { OnOk result (AtWord V.records V.runs V.stands E.kind word awaited seat.old seat.new) }
-        ensures kept { OnErr result (seat.new ≡ seat.old) }
-        ensures seen { IfErr result (λ e. SawWord V.records V.runs V.stands word awaited e.word seat.old) }
+        requires may { MayExchange V.records V.runs V.stands E.kind E.phase E.held
+            word awaited next seat.old.view }
+        ensures ok { OnOk result (seat.new ≡ seat_moved seat.old phase held seat.new.view.seen) }
+        ensures event { OnOk result (Makes E.kind seat.old seat.new) }
+        ensures kept { OnErr result (seat.new ≡ seat_saw seat.old seat.new.view.seen) }
+        ensures cause { IfErr result (λ e. SawWord word awaited e.word seat.old seat.new) }
     {
         let found = self
             .table
@@ -64,7 +65,7 @@ impl<V: Records> Words<V> {
     }
 
     /// An exchange on a core's gate, from the one that is awaited.
-    pub(crate) fn exchange_gate<E: Happening>(
+    pub(crate) fn exchange_gate<E: GateEvent>(
         &self,
         seat: &mut CoreSeat<V>,
         core: u8,
@@ -76,11 +77,12 @@ impl<V: Records> Words<V> {
         requires table { seat.old.table ≡ self.now }
         requires core { core < 2 }
         requires event { (phase ≡ E.phase) × (held ≡ E.held) }
-        requires may { MayPass V.records V.runs V.stands E.kind E.phase E.held core from to seat.old }
-        ensures moved { OnOk result (seat.new ≡ seat_moved seat.old phase held) }
-        ensures event { OnOk result (AtGate V.records V.runs V.stands E.kind core from seat.old seat.new) }
-        ensures kept { OnErr result (seat.new ≡ seat.old) }
-        ensures seen { IfErr result (λ e. SawGate V.records V.runs V.stands core from e.word seat.old) }
+        requires may { MayPass V.records V.runs V.stands E.kind E.phase E.held
+            core from to seat.old }
+        ensures ok { OnOk result (seat.new ≡ seat_moved seat.old phase held seat.new.view.seen) }
+        ensures event { OnOk result (Makes E.kind seat.old seat.new) }
+        ensures kept { OnErr result (seat.new ≡ seat_saw seat.old seat.new.view.seen) }
+        ensures cause { IfErr result (λ e. SawGate core from e.word seat.old seat.new) }
     {
         let word = gate_place(core);
         let awaited = gate_number(from);

@@ -2,14 +2,14 @@
 ghost use Rattle.std.specs.Prelude.{◌≡◌, false, OnOk, OnErr, IfErr, IsSome};
 ghost use Rattle.duo_machine.specs.declared.machine.Gate.TheVariants.{Rest, Run, Parked};
 ghost use Rattle.duo_machine.specs.declared.machine.Phase.TheVariants.{Owning, Asking, Quiet};
-ghost use Rattle.duo_machine.specs.declared.events.Kind.TheVariants.{Hold, Ask, See};
+ghost use Rattle.duo_machine.specs.declared.events.Kind.TheVariants.{Hold, Ask, See, End};
 ghost use Rattle.duo_machine.specs.Machine.{let_go};
-ghost use Rattle.park_words.specs.Views.{held_gate, in_phase, in_phase_holding};
-ghost use Rattle.park_words.specs.Told.{AtOther, SawOther, LetGo};
+ghost use Rattle.park_words.specs.Views.{held_gate, in_phase, in_phase_holding, seat_saw};
+ghost use Rattle.park_words.specs.Told.{Makes, SawOther};
 
-use crate::events::{AskOther, EndQuiet, HoldOther, Look};
 use crate::exchange::{gate_number, gate_place};
 use crate::seat::{CoreSeat, Seen};
+use crate::steps::{AskOther, EndQuiet, HoldOther, Look};
 use crate::words::Words;
 use core_state::Records;
 use duo_machine::{Gate, Phase};
@@ -34,10 +34,10 @@ impl<V: Records> Words<V> {
         requires table { seat.old.table ≡ self.now }
         requires owning { seat.old.view.phase ≡ Owning }
         requires saved { IsSome seat.old.view.registers.saved }
-        ensures quiet { OnOk result (seat.new ≡ in_phase_holding seat.old Quiet) }
-        ensures event { OnOk result (AtOther V.records V.runs V.stands Hold Rest seat.old seat.new) }
-        ensures kept { OnErr result (seat.new ≡ seat.old) }
-        ensures seen { IfErr result (λ e. SawOther V.records V.runs V.stands Rest e.word seat.old) }
+        ensures ok { OnOk result (seat.new ≡ in_phase_holding seat.old Quiet seat.new.view.seen) }
+        ensures event { OnOk result (Makes Hold seat.old seat.new) }
+        ensures kept { OnErr result (seat.new ≡ seat_saw seat.old seat.new.view.seen) }
+        ensures cause { IfErr result (λ e. SawOther Rest e.word seat.old seat.new) }
     {
         let beside = 1 - seat.core;
         self.exchange_gate::<HoldOther>(seat, beside, Gate::Rest, Gate::Held, Phase::Quiet, true)
@@ -48,10 +48,10 @@ impl<V: Records> Words<V> {
         requires table { seat.old.table ≡ self.now }
         requires owning { seat.old.view.phase ≡ Owning }
         requires saved { IsSome seat.old.view.registers.saved }
-        ensures asking { OnOk result (seat.new ≡ in_phase seat.old Asking) }
-        ensures event { OnOk result (AtOther V.records V.runs V.stands Ask Run seat.old seat.new) }
-        ensures kept { OnErr result (seat.new ≡ seat.old) }
-        ensures seen { IfErr result (λ e. SawOther V.records V.runs V.stands Run e.word seat.old) }
+        ensures ok { OnOk result (seat.new ≡ in_phase seat.old Asking seat.new.view.seen) }
+        ensures event { OnOk result (Makes Ask seat.old seat.new) }
+        ensures kept { OnErr result (seat.new ≡ seat_saw seat.old seat.new.view.seen) }
+        ensures cause { IfErr result (λ e. SawOther Run e.word seat.old seat.new) }
     {
         let beside = 1 - seat.core;
         self.exchange_gate::<AskOther>(seat, beside, Gate::Run, Gate::Asked, Phase::Asking, false)
@@ -61,10 +61,10 @@ impl<V: Records> Words<V> {
     pub fn look(&self, seat: &mut CoreSeat<V>) -> Result<(), Seen>
         requires table { seat.old.table ≡ self.now }
         requires asking { seat.old.view.phase ≡ Asking }
-        ensures quiet { OnOk result (seat.new ≡ in_phase seat.old Quiet) }
-        ensures event { OnOk result (AtOther V.records V.runs V.stands See Parked seat.old seat.new) }
-        ensures kept { OnErr result (seat.new ≡ seat.old) }
-        ensures seen { IfErr result (λ e. SawOther V.records V.runs V.stands Parked e.word seat.old) }
+        ensures ok { OnOk result (seat.new ≡ in_phase seat.old Quiet seat.new.view.seen) }
+        ensures event { OnOk result (Makes See seat.old seat.new) }
+        ensures kept { OnErr result (seat.new ≡ seat_saw seat.old seat.new.view.seen) }
+        ensures cause { IfErr result (λ e. SawOther Parked e.word seat.old seat.new) }
     {
         let word = gate_place(1 - seat.core);
         let found = self.table.shared.load::<Look>(&mut seat.seat, word);
@@ -80,9 +80,9 @@ impl<V: Records> Words<V> {
     pub fn end(&self, seat: &mut CoreSeat<V>)
         requires table { seat.old.table ≡ self.now }
         requires quiet { seat.old.view.phase ≡ Quiet }
-        requires no_step { seat.old.view.steps ≡ false }
-        ensures owning { seat.new ≡ in_phase seat.old Owning }
-        ensures event { LetGo V.records V.runs V.stands seat.old seat.new }
+        requires no_step { seat.old.view.stepping ≡ false }
+        ensures exact { seat.new ≡ in_phase seat.old Owning seat.new.view.seen }
+        ensures event { Makes End seat.old seat.new }
     {
         let beside = 1 - seat.core;
         let from = known_gate(seat.held);

@@ -3,12 +3,12 @@ ghost use Rattle.std.specs.Prelude.{◌≡◌, OnOk, OnErr, IfErr, IsSome};
 ghost use Rattle.duo_machine.specs.declared.machine.Gate.TheVariants.{Rest as AtRest, Run, Asked, Freed};
 ghost use Rattle.duo_machine.specs.declared.machine.Phase.TheVariants.{Resting, Running, Parked};
 ghost use Rattle.duo_machine.specs.declared.events.Kind.TheVariants.{Start, Rest, Park, Leave};
-ghost use Rattle.park_words.specs.Views.{in_phase};
-ghost use Rattle.park_words.specs.Told.{AtOwn, SawOwn, ReadsAsked};
+ghost use Rattle.park_words.specs.Views.{in_phase, seat_saw};
+ghost use Rattle.park_words.specs.Told.{Makes, SawOwn, ReadsAsked};
 
-use crate::events::{LeaveGate, Load, ParkCore, RestCore, StartCore};
 use crate::exchange::{gate_number, gate_place};
 use crate::seat::{CoreSeat, Seen};
+use crate::steps::{LeaveGate, Load, ParkCore, RestCore, StartCore};
 use crate::words::Words;
 use core_state::Records;
 use duo_machine::{Gate, Phase};
@@ -18,10 +18,10 @@ impl<V: Records> Words<V> {
     pub fn start(&self, seat: &mut CoreSeat<V>) -> Result<(), Seen>
         requires table { seat.old.table ≡ self.now }
         requires resting { seat.old.view.phase ≡ Resting }
-        ensures running { OnOk result (seat.new ≡ in_phase seat.old Running) }
-        ensures event { OnOk result (AtOwn V.records V.runs V.stands Start AtRest seat.old seat.new) }
-        ensures kept { OnErr result (seat.new ≡ seat.old) }
-        ensures seen { IfErr result (λ e. SawOwn V.records V.runs V.stands AtRest e.word seat.old) }
+        ensures ok { OnOk result (seat.new ≡ in_phase seat.old Running seat.new.view.seen) }
+        ensures event { OnOk result (Makes Start seat.old seat.new) }
+        ensures kept { OnErr result (seat.new ≡ seat_saw seat.old seat.new.view.seen) }
+        ensures cause { IfErr result (λ e. SawOwn AtRest e.word seat.old seat.new) }
     {
         let core = seat.core;
         self.exchange_gate::<StartCore>(seat, core, Gate::Rest, Gate::Run, Phase::Running, false)
@@ -32,10 +32,10 @@ impl<V: Records> Words<V> {
         requires table { seat.old.table ≡ self.now }
         requires running { seat.old.view.phase ≡ Running }
         requires saved { IsSome seat.old.view.registers.saved }
-        ensures resting { OnOk result (seat.new ≡ in_phase seat.old Resting) }
-        ensures event { OnOk result (AtOwn V.records V.runs V.stands Rest Run seat.old seat.new) }
-        ensures kept { OnErr result (seat.new ≡ seat.old) }
-        ensures seen { IfErr result (λ e. SawOwn V.records V.runs V.stands Run e.word seat.old) }
+        ensures ok { OnOk result (seat.new ≡ in_phase seat.old Resting seat.new.view.seen) }
+        ensures event { OnOk result (Makes Rest seat.old seat.new) }
+        ensures kept { OnErr result (seat.new ≡ seat_saw seat.old seat.new.view.seen) }
+        ensures cause { IfErr result (λ e. SawOwn Run e.word seat.old seat.new) }
     {
         let core = seat.core;
         self.exchange_gate::<RestCore>(seat, core, Gate::Run, Gate::Rest, Phase::Resting, false)
@@ -46,10 +46,10 @@ impl<V: Records> Words<V> {
         requires table { seat.old.table ≡ self.now }
         requires running { seat.old.view.phase ≡ Running }
         requires saved { IsSome seat.old.view.registers.saved }
-        ensures parked { OnOk result (seat.new ≡ in_phase seat.old Parked) }
-        ensures event { OnOk result (AtOwn V.records V.runs V.stands Park Asked seat.old seat.new) }
-        ensures kept { OnErr result (seat.new ≡ seat.old) }
-        ensures seen { IfErr result (λ e. SawOwn V.records V.runs V.stands Asked e.word seat.old) }
+        ensures ok { OnOk result (seat.new ≡ in_phase seat.old Parked seat.new.view.seen) }
+        ensures event { OnOk result (Makes Park seat.old seat.new) }
+        ensures kept { OnErr result (seat.new ≡ seat_saw seat.old seat.new.view.seen) }
+        ensures cause { IfErr result (λ e. SawOwn Asked e.word seat.old seat.new) }
     {
         let core = seat.core;
         self.exchange_gate::<ParkCore>(seat, core, Gate::Asked, Gate::Parked, Phase::Parked, false)
@@ -59,10 +59,10 @@ impl<V: Records> Words<V> {
     pub fn leave(&self, seat: &mut CoreSeat<V>) -> Result<(), Seen>
         requires table { seat.old.table ≡ self.now }
         requires parked { seat.old.view.phase ≡ Parked }
-        ensures running { OnOk result (seat.new ≡ in_phase seat.old Running) }
-        ensures event { OnOk result (AtOwn V.records V.runs V.stands Leave Freed seat.old seat.new) }
-        ensures kept { OnErr result (seat.new ≡ seat.old) }
-        ensures seen { IfErr result (λ e. SawOwn V.records V.runs V.stands Freed e.word seat.old) }
+        ensures ok { OnOk result (seat.new ≡ in_phase seat.old Running seat.new.view.seen) }
+        ensures event { OnOk result (Makes Leave seat.old seat.new) }
+        ensures kept { OnErr result (seat.new ≡ seat_saw seat.old seat.new.view.seen) }
+        ensures cause { IfErr result (λ e. SawOwn Freed e.word seat.old seat.new) }
     {
         let core = seat.core;
         self.exchange_gate::<LeaveGate>(seat, core, Gate::Freed, Gate::Run, Phase::Running, false)
@@ -71,8 +71,8 @@ impl<V: Records> Words<V> {
     /// Whether the other core asks this one to park. It makes no event.
     pub fn asked(&self, seat: &mut CoreSeat<V>) -> bool
         requires { seat.old.table ≡ self.now }
-        ensures kept { seat.new ≡ seat.old }
-        ensures asked { ReadsAsked V.records V.runs V.stands result seat.old }
+        ensures kept { seat.new ≡ seat_saw seat.old seat.new.view.seen }
+        ensures exact { ReadsAsked result seat.old seat.new }
     {
         let word = gate_place(seat.core);
         let found = self.table.shared.load::<Load>(&mut seat.seat, word);

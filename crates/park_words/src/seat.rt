@@ -38,12 +38,13 @@ impl<V: Records> Model for CoreSeat<V> {
 impl<V: Records> CoreSeat<V> {
     /// 0 or 1.
     pub fn core(&self) -> u8
-        ensures core { result ≡ self.now.view.core }
-        ensures small { result < 2 }
+        ensures exact { result ≡ self.now.view.core }
+        ensures within { result < 2 }
     {
         self.core
     }
 
+    /// What its core is doing.
     pub fn phase(&self) -> Phase
         ensures { result ≡ self.now.view.phase }
     {
@@ -57,6 +58,7 @@ impl<V: Records> CoreSeat<V> {
         self.registers
     }
 
+    /// Whether its core has the turn.
     pub fn has_turn(&self) -> bool
         ensures { result ≡ self.now.view.turn }
     {

@@ -1,28 +1,33 @@
 //! Rows of steps on one thread, and two threads that take turns.
-ghost use Rattle.std.specs.Prelude.{◌≡◌, ◌+◌, ◌<◌, true, false, [], sum, slice_index_or, replicate, None, Some, ◌-◌, IsSome, IfSome};
+ghost use Rattle.std.specs.Prelude.{◌≡◌, ◌+◌, ◌<◌, true, false, [], ◌∷◌, sum, slice_index_or, replicate, None, Some, ◌-◌, IsSome, IfSome, OnSome, ⊤};
 ghost use Rattle.std.specs.Thread.{IsSync};
 ghost use Rattle.core_state.specs.Registers.{starting, restored};
-ghost use Rattle.duo_machine.specs.declared.machine.Phase.TheVariants.{Owning};
-ghost use Rattle.park_words.specs.Views.{IsIdle};
-ghost use Rattle.park_words.specs.Told.{Known, Gives, given};
+ghost use Rattle.core_state.specs.Sharing.{GoesOn};
+ghost use Rattle.duo_machine.specs.declared.machine.Phase.TheVariants.{Resting, Running, Owning};
+ghost use Rattle.duo_machine.specs.declared.events.Kind.TheVariants.{Start};
+ghost use Rattle.park_words.specs.declared.view.Act.TheVariants.{Made};
+ghost use Rattle.park_words.specs.Views.{IsIdle, in_phase};
+ghost use Rattle.park_words.specs.Story.{entry, Ran};
+ghost use Rattle.park_words.specs.Told.{Known, Gives, HasGiven, no_work, event_alone, items_alone};
 
 use crate::{CoreSeat, Seen, Words};
 use core_state::{Record, Records, Regs, restore};
+use duo_machine::{Kind, Phase};
 use std::alloc::Global;
 use std::sync::Wait;
 use std::thread;
 use std::thread::{Threads, join};
 
-/// What both cores added up, and how often the turn was taken.
+/// What both cores added up.
 #[derive(Drop)]
 struct Tally {
     registers: [Record; 2],
     running: Option<u8>,
     total: u64,
-    rounds: u64,
 }
 
 impl Tally {
+    /// Both cores at rest, and nothing added.
     fn new() -> Tally
         ensures registers { result.registers ≡ replicate 2 starting }
         ensures rest { (result.running ≡ None) × (result.total ≡ 0) }
@@ -31,20 +36,34 @@ impl Tally {
             registers: [Record::starting(); 2],
             running: None,
             total: 0,
-            rounds: 0,
         }
     }
-}
 
-impl Tally {
+    /// The core's own registers in force again.
     fn put_back(&mut self, core: u8)
         requires core { core < 2 }
         requires saved { IsSome (slice_index_or self.old.registers core starting).saved }
-        ensures own { slice_index_or self.new.registers core starting ≡ restored (slice_index_or self.old.registers core starting) }
-        ensures other { slice_index_or self.new.registers (1 - core) starting ≡ slice_index_or self.old.registers (1 - core) starting }
+        ensures own { slice_index_or self.new.registers core starting ≡
+            restored (slice_index_or self.old.registers core starting) }
+        ensures other { slice_index_or self.new.registers (1 - core) starting ≡
+            slice_index_or self.old.registers (1 - core) starting }
         ensures rest { (self.new.running ≡ self.old.running) × (self.new.total ≡ self.old.total) }
     {
         restore(&mut self.registers[usize::from(core)]);
+    }
+
+    /// One more, where there is room: what was added.
+    fn add_one(&mut self, _core: u8) -> u64
+        requires core { _core < 2 }
+        ensures goes_on { GoesOn ⟦<Tally as Records>⟧.stands (λ b c items. ⊤)
+            self.old self.new _core (result ∷ []) }
+        ensures rest { (self.new.registers ≡ self.old.registers) × (self.new.running ≡ self.old.running) }
+    {
+        let Some(total) = self.total.checked_add(1) else {
+            return 0;
+        };
+        self.total = total;
+        1
     }
 }
 
@@ -68,12 +87,12 @@ impl Records for Tally {
     }
 }
 
-/// Gives the value back, with at most one event done to it and nothing new in the share.
-fn give_done<V: Records>(words: &Words<V>, seat: &mut CoreSeat<V>, value: V)
+/// Gives the value back, with no event done to it and nothing new in the share.
+fn give_nothing<V: Records>(words: &Words<V>, seat: &mut CoreSeat<V>, value: V)
     requires table { seat.old.table ≡ words.now }
     requires turn { seat.old.view.turn ≡ true }
-    requires value { Gives V.records V.runs V.stands seat.old.view value seat.old.view.share }
-    ensures { seat.new ≡ given V.records V.runs seat.old value seat.old.view.share }
+    requires value { Gives V.records V.runs V.stands seat.old.view value no_work }
+    ensures { HasGiven V.records V.runs value no_work seat.old seat.new }
 {
     words.give_turn(seat, value);
 }
@@ -83,9 +102,31 @@ fn give_back<V: Records>(words: &Words<V>, seat: &mut CoreSeat<V>, value: V)
     requires table { seat.old.table ≡ words.now }
     requires turn { seat.old.view.turn ≡ true }
     requires same { Known V.records V.runs V.stands value seat.old.view }
-    ensures { seat.new ≡ given V.records V.runs seat.old value seat.old.view.share }
+    ensures { HasGiven V.records V.runs value no_work seat.old seat.new }
 {
-    give_done(words, seat, value);
+    give_nothing(words, seat, value);
+}
+
+/// Gives the value back with this event done to it.
+fn give_event<V: Records>(words: &Words<V>, seat: &mut CoreSeat<V>, value: V, event: Kind)
+    requires table { seat.old.table ≡ words.now }
+    requires turn { seat.old.view.turn ≡ true }
+    requires value { Gives V.records V.runs V.stands seat.old.view value (event_alone event) }
+    ensures { HasGiven V.records V.runs value (event_alone event) seat.old seat.new }
+{
+    words.give_said(seat, value, &event);
+}
+
+/// Gives the sum back with this added to it.
+fn give_added(words: &Words<Tally>, seat: &mut CoreSeat<Tally>, tally: Tally, amount: u64)
+    requires table { seat.old.table ≡ words.now }
+    requires turn { seat.old.view.turn ≡ true }
+    requires value { Gives ⟦<Tally as Records>⟧.records ⟦<Tally as Records>⟧.runs ⟦<Tally as Records>⟧.stands
+        seat.old.view tally (items_alone (amount ∷ [])) }
+    ensures { HasGiven ⟦<Tally as Records>⟧.records ⟦<Tally as Records>⟧.runs
+        tally (items_alone (amount ∷ [])) seat.old seat.new }
+{
+    words.give_said(seat, tally, &amount);
 }
 
 /// Puts the core's own registers back in force, where the turn is free.
@@ -95,18 +136,21 @@ fn restore_own(words: &Words<Tally>, seat: &mut CoreSeat<Tally>) -> Option<Recor
     requires saved { IsSome seat.old.view.registers.saved }
     ensures table { seat.new.table ≡ seat.old.table }
     ensures owning { seat.new.view.phase ≡ Owning }
-    ensures own { IfSome result (λ r. (r ≡ restored seat.old.view.registers) × (seat.new.view.registers ≡ r)) }
+    ensures own { IfSome result (λ r.
+        (r ≡ restored seat.old.view.registers) × (seat.new.view.registers ≡ r)) }
 {
     let Ok(mut tally) = words.take_turn(seat) else {
         return None;
     };
     tally.put_back(seat.core());
     let own = tally.record(seat.core());
-    give_done(words, seat, tally);
+    give_event(words, seat, tally, Kind::Back);
     Some(own)
 }
 
-fn turns(alloc: Global) -> Option<u64> {
+/// The turn of one core at a time: the number that a refused core read, and whether core 1 had the
+/// turn then and later.
+fn turns(alloc: Global) -> Option<(u64, bool, bool)> {
     let Ok((words, mut zero, mut one)) = Words::new(alloc, Tally::new()) else {
         return None;
     };
@@ -117,15 +161,19 @@ fn turns(alloc: Global) -> Option<u64> {
         return None;
     };
     give_back(&words, &mut zero, tally);
+    let refused = one.has_turn();
     let Ok(tally) = words.take_turn(&mut one) else {
         return None;
     };
+    let taken = one.has_turn();
     give_back(&words, &mut one, tally);
     let _tally = words.close(zero, one);
-    Some(word)
+    Some((word, refused, taken))
 }
 
-fn lock_and_back(alloc: Global) -> Option<(u64, Record)> {
+/// Core 1 has the lock: the number that core 0 read, the registers that core 1 got back, its phase
+/// at the end.
+fn lock_and_back(alloc: Global) -> Option<(u64, [Record; 2], Phase)> {
     let Ok((words, mut zero, mut one)) = Words::new(alloc, Tally::new()) else {
         return None;
     };
@@ -148,9 +196,10 @@ fn lock_and_back(alloc: Global) -> Option<(u64, Record)> {
         return None;
     };
     words.give_lock(&mut one);
-    Some((taken.word, own))
+    Some((taken.word, [own, one.record()], one.phase()))
 }
 
+/// Core 0 holds core 1 at rest: the numbers that a refused ask and a refused start read.
 fn held_at_rest(alloc: Global) -> Option<(u64, u64)> {
     let Ok((words, mut zero, mut one)) = Words::new(alloc, Tally::new()) else {
         return None;
@@ -177,6 +226,7 @@ fn held_at_rest(alloc: Global) -> Option<(u64, u64)> {
     Some((asked.word, held.word))
 }
 
+/// Core 0 parks core 1: the numbers that refused calls read, and whether core 1 was asked.
 fn parked(alloc: Global) -> Option<([u64; 4], bool)> {
     let Ok((words, mut zero, mut one)) = Words::new(alloc, Tally::new()) else {
         return None;
@@ -219,12 +269,49 @@ fn parked(alloc: Global) -> Option<([u64; 4], bool)> {
     Some(([lock.word, running.word, unparked.word, parked.word], asked))
 }
 
+/// Tries until the core runs. Of the core's own entries the run gains Start alone.
+#[tactic(auto, using(crate::proofs::Stories::ran_looks, crate::proofs::Stories::ran_step, crate::proofs::Stories::ran_none))]
+fn start_waiting<R: Wait, V: Records>(rt: &R, words: &Words<V>, seat: &mut CoreSeat<V>)
+    requires table { seat.old.table ≡ words.now }
+    requires resting { seat.old.view.phase ≡ Resting }
+    ensures exact { seat.new ≡ in_phase seat.old Running seat.new.view.seen }
+    ensures ran { Ran (entry seat.old.view.core (Made Start) ∷ []) seat.old.view seat.new.view }
+{
+    for _ in rt.forever() {
+        if words.start(seat).is_ok() {
+            return;
+        }
+        thread::yield_now();
+    }
+}
+
+/// Core 0 waits until it runs: its phase then.
+fn waits<R: Wait>(rt: &R, alloc: Global) -> Option<Phase> {
+    let Ok((words, mut zero, _one)) = Words::new(alloc, Tally::new()) else {
+        return None;
+    };
+    start_waiting(rt, &words, &mut zero);
+    Some(zero.phase())
+}
+
 #[test]
 fn rows_of_steps(rt: HostRuntime) {
     assert_eq!(rt;
         turns(rt.alloc()),
-        Some(1),
+        Some((1, false, true)),
         "turn of 0, turn of 1, back, turn of 1"
+    );
+    assert_eq!(rt;
+        lock_and_back(rt.alloc()),
+        Some((
+            2,
+            [Record {
+                regs: Regs { mask: 3, irq: 1 },
+                saved: None,
+            }; 2],
+            Phase::Running
+        )),
+        "core 1 takes the lock, gets its registers back and gives the lock back"
     );
     assert_eq!(rt;
         held_at_rest(rt.alloc()),
@@ -236,9 +323,15 @@ fn rows_of_steps(rt: HostRuntime) {
         Some(([1, 1, 2, 3], true)),
         "core 1 parks and leaves"
     );
+    assert_eq!(rt;
+        waits(&rt, rt.alloc()),
+        Some(Phase::Running),
+        "core 0 waits until it runs"
+    );
 }
 
-fn take_and_give<R: Wait>(rt: &R, words: &Words<Tally>, seat: &mut CoreSeat<Tally>)
+/// One turn, in which this core adds one, once the turn is free.
+fn take_and_add<R: Wait>(rt: &R, words: &Words<Tally>, seat: &mut CoreSeat<Tally>)
     requires table { seat.old.table ≡ words.now }
     requires idle { seat.old.view.turn ≡ false }
     ensures table { seat.new.table ≡ seat.old.table }
@@ -247,14 +340,15 @@ fn take_and_give<R: Wait>(rt: &R, words: &Words<Tally>, seat: &mut CoreSeat<Tall
 {
     for _ in rt.forever() {
         if let Ok(mut tally) = words.take_turn(seat) {
-            tally.rounds = tally.rounds.wrapping_add(1);
-            give_back(words, seat, tally);
+            let amount = tally.add_one(seat.core());
+            give_added(words, seat, tally, amount);
             return;
         }
         thread::yield_now();
     }
 }
 
+/// So many turns, in each of which this core adds one.
 fn take_turns<R: Wait>(
     rt: &R,
     words: &Words<Tally>,
@@ -268,11 +362,12 @@ fn take_turns<R: Wait>(
     ensures idle { result.view.turn ≡ false }
 {
     for _ in 0..rounds {
-        take_and_give(rt, words, &mut seat);
+        take_and_add(rt, words, &mut seat);
     }
     seat
 }
 
+/// Two threads with 3,000 turns each: what they added up.
 fn two_threads<R: Threads + Wait + Sync>(rt: &R, alloc: Global) -> Option<u64> {
     let Ok((words, zero, one)) = Words::new(alloc, Tally::new()) else {
         return None;
@@ -290,7 +385,7 @@ fn two_threads<R: Threads + Wait + Sync>(rt: &R, alloc: Global) -> Option<u64> {
         { take_turns(rt, shared, one, 3000) },
     );
     let tally = words.close(zero, one);
-    Some(tally.rounds)
+    Some(tally.total)
 }
 
 #[test]

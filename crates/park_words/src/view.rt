@@ -1,6 +1,6 @@
-//! What a seat knows of the shared words.
+//! What a seat knows of the shared words, and what a step on them was.
 use core_state::Record;
-use duo_machine::Phase;
+use duo_machine::{Kind, Phase};
 use std::collections::LinkedList;
 
 /// For which cores a view stands.
@@ -15,6 +15,23 @@ pub enum Stage {
     Spent,
 }
 
+/// What a step on the words was.
+pub enum Act {
+    /// An event of the machine.
+    Made(Kind),
+    /// The turn was taken.
+    Took,
+    /// The turn was given back.
+    Gave,
+}
+
+/// One entry of the run of both cores: a core, 0 or 1, and what its step was. No value of it is
+/// made.
+pub struct Entry {
+    pub core: u8,
+    pub act: Act,
+}
+
 /// What a seat knows. No value of it is made.
 pub struct View<B, D> {
     pub stage: Stage,
@@ -23,7 +40,7 @@ pub struct View<B, D> {
     /// Its core's registers, in force and saved.
     pub registers: Record,
     /// Whether a step of its core runs.
-    pub steps: bool,
+    pub stepping: bool,
     /// What its core did to the value.
     pub share: LinkedList<D>,
     /// What was fixed when the words were made.
@@ -38,4 +55,8 @@ pub struct View<B, D> {
     pub running: Option<u8>,
     /// Whether it holds the other core at rest. A quiet core that does not has it parked.
     pub held: bool,
+    /// The run of both cores so far, as of its own last step.
+    pub seen: LinkedList<Entry>,
+    /// The same of the other core, once its seat was taken in.
+    pub other_seen: LinkedList<Entry>,
 }

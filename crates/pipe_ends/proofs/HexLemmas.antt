@@ -30,7 +30,7 @@ hex_text-step n (suc place) digit h is =
 digit_value-glyph : (digit : ℕ) → digit < 16 → digit_value (hex_glyph digit) ≡ digit
 digit_value-glyph digit h = grind arith
 
--- behind digits that spell a number, the digits of another spell its rest besides
+-- after digits that spell a number, the digits of another spell its rest besides
 spelled_after : (digits before number : ℕ) → digits_value_after 16 before (hex_text digits number) ≡ before * 16 ^ digits + number % 16 ^ digits
 spelled_after zero before number = omega arith
 spelled_after (suc place) before number =

@@ -9,35 +9,35 @@ use Rattle.pipe_ends.specs.Calls.{Counts, counts_code, after_call, fails_next}
 use Rattle.pipe_ends.specs.Store.{Files}
 
 -- what a store in memory has: its files, and its calls
-pub record Shelf : Type 0 where
+pub record StoreState : Type 0 where
   pub files : Files
   pub calls : Counts
 
 -- it is told apart by its two parts
-abbrev pub shelf_code : Coded Shelf
-shelf_code =
+abbrev pub store_code : Coded StoreState
+store_code =
     code_by (Files × Counts) (coded× (code (coded_list coded_ℕ) (coded_list coded_ℕ)) counts_code)
-    (λ shelf. (shelf.files, shelf.calls))
+    (λ store. (store.files, store.calls))
     (λ parts. record { files = parts.0; calls = parts.1 }) (λ _. refl)
 
 -- the name and the bytes of a file
-abbrev pub entry_of : File → List ℕ × List ℕ
-entry_of file = (string_bytes file.name, file.bytes.items)
+abbrev pub named_bytes : File → List ℕ × List ℕ
+named_bytes file = (string_bytes file.name, file.bytes.items)
 
 -- one more call came, and the files stayed
-abbrev pub counted : Shelf → Shelf
-counted shelf = record { files = shelf.files; calls = after_call shelf.calls }
+abbrev pub counted : StoreState → StoreState
+counted store = record { files = store.files; calls = after_call store.calls }
 
 -- one more call came, and gave a file these bytes
-abbrev pub stored : Shelf → List ℕ → List ℕ → Shelf
-stored shelf name bytes = record {
-  files = insert shelf.files name bytes;
-  calls = after_call shelf.calls;
+abbrev pub stored : StoreState → List ℕ → List ℕ → StoreState
+stored store name bytes = record {
+  files = insert store.files name bytes;
+  calls = after_call store.calls;
 }
 
 -- the next call does not fail, and there is no file of this name
-abbrev pub LacksNext : Shelf → List ℕ → Type 0
-LacksNext shelf name = (fails_next shelf.calls ≡ false) × (get shelf.files name ≡ None)
+abbrev pub LacksNext : StoreState → List ℕ → Type 0
+LacksNext store name = (fails_next store.calls ≡ false) × (get store.files name ≡ None)
 
 -- whether a file has this name
 abbrev pub has_name : List ℕ → File → Bool
@@ -45,7 +45,7 @@ has_name name file = pointwise nat_eq (string_bytes file.name) name
 
 -- the files of a list; of two that have one name, the first counts
 abbrev pub files_of : List File → Files
-files_of files = from_entries (map entry_of files)
+files_of files = from_entries (map named_bytes files)
 
 -- none of these files has this name
 abbrev pub HasNoneNamed : List ℕ → List File → Type 0

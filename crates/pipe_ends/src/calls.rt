@@ -22,6 +22,7 @@ impl Model for Calls {
 }
 
 impl Calls {
+    /// No call so far, of which these are to fail.
     pub(crate) fn new(failing: Vec<u64>) -> Calls
         ensures { result ≡ record { failing = failing.items; made = 0; faults = 0 } }
     {
@@ -34,7 +35,7 @@ impl Calls {
 
     /// Counts one more call, and whether it fails.
     pub(crate) fn next_fails(&mut self) -> bool
-        ensures fails { result ≡ fails_next self.old }
+        ensures exact { result ≡ fails_next self.old }
         ensures counted { self.new ≡ after_call self.old }
         ensures later { self.old.faults ≤ self.new.faults }
     {

@@ -8,8 +8,8 @@ use crate::fault::Memory;
 
 /// Appends the decimal digits of `n`, with no leading zero.
 pub fn put_number(out: &mut Vec<u8>, n: u64) -> Result<(), Memory>
-    ensures digits { OnOk result (out.new.items ≡ out.old.items ++ decimal n) }
-    ensures unchanged { OnErr result (out.new.items ≡ out.old.items) }
+    ensures ok { OnOk result (out.new.items ≡ out.old.items ++ decimal n) }
+    ensures kept { OnErr result (out.new.items ≡ out.old.items) }
 {
     let text = format!(in *out.allocator(); "{n}")?;
     out.extend_from_slice(text.as_bytes())?;
@@ -21,8 +21,8 @@ pub fn put_hex(out: &mut Vec<u8>, n: u64, digits: u8) -> Result<(), Memory>
     requires some { 1 ≤ digits }
     requires most { digits ≤ 16 }
     requires fits { n < 16 ^ digits }
-    ensures digits { OnOk result (out.new.items ≡ out.old.items ++ hex_text digits n) }
-    ensures unchanged { OnErr result (out.new.items ≡ out.old.items) }
+    ensures ok { OnOk result (out.new.items ≡ out.old.items ++ hex_text digits n) }
+    ensures kept { OnErr result (out.new.items ≡ out.old.items) }
 {
     out.reserve(usize::from(digits))?;
     for place in (0..digits).rev() {
@@ -38,6 +38,7 @@ pub fn hex_digits_spell_their_number()
         → digits_value 16 (hex_text digits number) ≡ number }
 {}
 
+/// The character of a digit from 0 to 15.
 fn hex_digit(digit: u64) -> u8
     requires { digit < 16 }
     ensures { result ≡ hex_glyph digit }

@@ -4,14 +4,14 @@ ghost use Rattle.std.specs.Prelude.{◌≡◌, None};
 use crate::fault::{GetFault, PushFault, PutFault};
 use crate::sink::Sink;
 use crate::store::Store;
+use crate::whole_file::{read_whole, write_whole};
 use std::alloc::Global;
-use std::fs::OpenFile;
-use std::io::{ErrorKind, Read};
+use std::io::ErrorKind;
 use std::rt::Files;
-use std::{fs, io};
 
 /// Files of the system, under the current folder where the name is no path from the root. It tells
-/// none of them. No such file is `Absent`, want of memory is `Memory`, and all else is counted.
+/// none of them. No such file is `Absent`, out of memory is `Memory`, and all else is counted. A put
+/// leaves a file whole: with the new bytes, or after a refusal with the old ones.
 #[derive(Drop)]
 pub struct DirStore<'a, R: Files + AllocGlobal> {
     rt: &'a R,
@@ -32,6 +32,7 @@ impl<'a, R: Files + AllocGlobal> Store for DirStore<'a, R> {
 
     ghost faults = { λ store. store.faults };
 
+    /// The bytes of the file of this name, read whole.
     fn get(&mut self, alloc: Global, name: &str) -> Result<Vec<u8>, GetFault> {
         match read_whole(self.rt, alloc, name) {
             Ok(bytes) => Ok(bytes),
@@ -46,8 +47,9 @@ impl<'a, R: Files + AllocGlobal> Store for DirStore<'a, R> {
         }
     }
 
+    /// Gives the file of this name these bytes, whole or not at all.
     fn put(&mut self, _alloc: Global, name: &str, bytes: &[u8]) -> Result<(), PutFault> {
-        match fs::write(self.rt, name, bytes) {
+        match write_whole(self.rt, name, bytes) {
             Ok(()) => Ok(()),
             Err(refused) if refused.kind() == ErrorKind::OutOfMemory => Err(PutFault::Memory),
             Err(_) => {
@@ -58,7 +60,7 @@ impl<'a, R: Files + AllocGlobal> Store for DirStore<'a, R> {
     }
 }
 
-/// Standard output. It tells none of the bytes. Want of memory is `Memory`, all else is counted.
+/// Standard output. It tells none of the bytes. Out of memory is `Memory`, all else is counted.
 #[derive(Drop)]
 pub struct StdSink<'a, R: Print> {
     rt: &'a R,
@@ -79,6 +81,7 @@ impl<'a, R: Print> Sink for StdSink<'a, R> {
 
     ghost faults = { λ sink. sink.faults };
 
+    /// Writes all of the bytes.
     fn push(&mut self, _alloc: Global, bytes: &[u8]) -> Result<(), PushFault> {
         match self.rt.write_all(bytes) {
             Ok(()) => Ok(()),
@@ -89,15 +92,4 @@ impl<'a, R: Print> Sink for StdSink<'a, R> {
             }
         }
     }
-}
-
-// All bytes of a file, read into room that is taken once. A file that grew meanwhile is read to its
-// new end, into more room.
-fn read_whole<R: Files>(rt: &R, alloc: Global, name: &str) -> io::Result<Vec<u8>> {
-    let mut file = fs::open(rt, name)?;
-    let length = file.metadata()?.len();
-    // One byte more than the file has, so that the read that finds the end needs no new room.
-    let mut bytes = Vec::with_capacity(alloc, length.saturating_add(1) as usize)?;
-    file.read_to_end(&mut bytes)?;
-    Ok(bytes)
 }

@@ -8,7 +8,7 @@ pub enum GetFault {
     Absent,
     /// The store failed, and counted it.
     Failed,
-    /// There was no memory for the bytes.
+    /// Out of memory for the bytes.
     Memory,
 }
 
@@ -17,7 +17,7 @@ pub enum GetFault {
 pub enum PutFault {
     /// The store failed, and counted it.
     Failed,
-    /// There was no memory for the file.
+    /// Out of memory for the file.
     Memory,
 }
 
@@ -26,11 +26,11 @@ pub enum PutFault {
 pub enum PushFault {
     /// The sink failed, and counted it.
     Failed,
-    /// There was no memory for the bytes.
+    /// Out of memory for the bytes.
     Memory,
 }
 
-/// There was no memory.
+/// Out of memory.
 #[derive(Clone, Copy, Debug, PartialEq, Eq)]
 pub struct Memory;
 
@@ -40,6 +40,7 @@ impl From<AllocError> for GetFault {
 
     ghost from_gives = { λ _ e. e ≡ Memory };
 
+    /// Out of memory.
     fn from(_refused: AllocError) -> GetFault {
         GetFault::Memory
     }
@@ -51,6 +52,7 @@ impl From<AllocError> for PutFault {
 
     ghost from_gives = { λ _ e. e ≡ Memory };
 
+    /// Out of memory.
     fn from(_refused: AllocError) -> PutFault {
         PutFault::Memory
     }
@@ -62,6 +64,7 @@ impl<T: Drop> From<AllocFailed<T>> for PutFault {
 
     ghost from_gives = { λ _ e. e ≡ Memory };
 
+    /// Out of memory.
     fn from(_refused: AllocFailed<T>) -> PutFault {
         PutFault::Memory
     }
@@ -73,12 +76,14 @@ impl From<AllocError> for PushFault {
 
     ghost from_gives = { λ _ e. e ≡ Memory };
 
+    /// Out of memory.
     fn from(_refused: AllocError) -> PushFault {
         PushFault::Memory
     }
 }
 
 impl From<AllocError> for Memory {
+    /// Out of memory.
     fn from(_refused: AllocError) -> Memory {
         Memory
     }

@@ -8,8 +8,10 @@ mod fault;
 mod file;
 mod mem_sink;
 mod mem_store;
+mod number;
 mod sink;
 mod store;
+mod whole_file;
 
 pub use digits::{hex_digits_spell_their_number, put_hex, put_number};
 pub use edge::{DirStore, StdSink};
@@ -17,8 +19,11 @@ pub use fault::{GetFault, Memory, PushFault, PutFault};
 pub use file::File;
 pub use mem_sink::MemSink;
 pub use mem_store::MemStore;
+pub use number::{read_number, value_of};
 pub use sink::Sink;
 pub use store::Store;
 
+#[cfg(test)]
+mod failing_disk;
 #[cfg(test)]
 mod tests;

@@ -17,11 +17,11 @@ pub struct MemSink {
 
 // Clauses see the bytes and the counted calls.
 impl Model for MemSink {
-    ghost use Rattle.pipe_ends.specs.MemSink.{Basin, basin_code};
+    ghost use Rattle.pipe_ends.specs.MemSink.{SinkState, sink_code};
 
-    ghost Value = { Basin };
+    ghost Value = { SinkState };
 
-    ghost coded = { basin_code };
+    ghost coded = { sink_code };
 
     ghost view = { λ s. record { bytes = s.bytes.items; calls = s.calls } };
 }
@@ -30,7 +30,7 @@ impl MemSink {
     /// A sink that holds nothing yet. It takes no memory.
     pub fn new(alloc: Global, failing: Vec<u64>) -> MemSink
         ensures bytes { result.bytes ≡ [] }
-        ensures calls { result.calls ≡ record { failing = failing.items; made = 0; faults = 0 } }
+        ensures counted { result.calls ≡ record { failing = failing.items; made = 0; faults = 0 } }
     {
         MemSink {
             bytes: Vec::new(alloc),
@@ -49,16 +49,17 @@ impl MemSink {
 impl Sink for MemSink {
     ghost use Rattle.std.specs.Prelude.{◌≡◌, ◌≤◌, ◌↔◌, OnOk, OnErr, IsErrOf, IsTrue, Some};
     ghost use Rattle.pipe_ends.specs.Calls.{fails_next};
-    ghost use Rattle.pipe_ends.specs.MemSink.{refused, poured};
+    ghost use Rattle.pipe_ends.specs.MemSink.{refused, appended};
 
     ghost pushed = { λ sink. Some sink.bytes };
 
     ghost faults = { λ sink. sink.calls.faults };
 
+    /// Takes all of the bytes.
     fn push(&mut self, _alloc: Global, bytes: &[u8]) -> Result<(), PushFault>
-        ensures all { OnOk result (self.new ≡ poured self.old bytes.now) }
-        ensures none { OnErr result (self.new ≡ refused self.old) }
-        ensures failed { IsErrOf result PushFault.Failed ↔ IsTrue (fails_next self.old.calls) }
+        ensures ok { OnOk result (self.new ≡ appended self.old bytes.now) }
+        ensures err { OnErr result (self.new ≡ refused self.old) }
+        ensures cause { IsErrOf result PushFault.Failed ↔ IsTrue (fails_next self.old.calls) }
         ensures later { self.old.calls.faults ≤ self.new.calls.faults }
     {
         if self.calls.next_fails() {

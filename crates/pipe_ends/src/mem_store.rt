@@ -19,11 +19,11 @@ pub struct MemStore {
 
 // Clauses see the files by name, and the counted calls.
 impl Model for MemStore {
-    ghost use Rattle.pipe_ends.specs.MemStore.{Shelf, shelf_code, files_of};
+    ghost use Rattle.pipe_ends.specs.MemStore.{StoreState, store_code, files_of};
 
-    ghost Value = { Shelf };
+    ghost Value = { StoreState };
 
-    ghost coded = { shelf_code };
+    ghost coded = { store_code };
 
     ghost view = { λ s. record { files = files_of s.files.items; calls = s.calls } };
 }
@@ -35,7 +35,7 @@ impl MemStore {
         requires { AreDistinct files.items }
         ensures files { result.files ≡ files_of files.items }
         ensures given { TellsJust result.files files.items }
-        ensures calls { result.calls ≡ record { failing = failing.items; made = 0; faults = 0 } }
+        ensures counted { result.calls ≡ record { failing = failing.items; made = 0; faults = 0 } }
     {
         MemStore {
             files,
@@ -54,10 +54,11 @@ impl Store for MemStore {
 
     ghost faults = { λ store. store.calls.faults };
 
+    /// The bytes of the file of this name.
     fn get(&mut self, alloc: Global, name: &str) -> Result<Vec<u8>, GetFault>
         ensures bytes { IfOk result (λ bytes. map.get self.old.files name.now ≡ Some bytes.items) }
         ensures absent { IsErrOf result GetFault.Absent ↔ LacksNext self.old name.now }
-        ensures failed { IsErrOf result GetFault.Failed ↔ IsTrue (fails_next self.old.calls) }
+        ensures cause { IsErrOf result GetFault.Failed ↔ IsTrue (fails_next self.old.calls) }
         ensures counted { self.new ≡ counted self.old }
         ensures later { self.old.calls.faults ≤ self.new.calls.faults }
     {
@@ -70,10 +71,11 @@ impl Store for MemStore {
         Ok(Vec::from_slice(alloc, &self.files[place].bytes)?)
     }
 
+    /// Gives the file of this name these bytes.
     fn put(&mut self, alloc: Global, name: &str, bytes: &[u8]) -> Result<(), PutFault>
-        ensures put { OnOk result (self.new ≡ stored self.old name.now bytes.now) }
+        ensures ok { OnOk result (self.new ≡ stored self.old name.now bytes.now) }
         ensures same { OnErr result (self.new ≡ counted self.old) }
-        ensures failed { IsErrOf result PutFault.Failed ↔ IsTrue (fails_next self.old.calls) }
+        ensures cause { IsErrOf result PutFault.Failed ↔ IsTrue (fails_next self.old.calls) }
         ensures later { self.old.calls.faults ≤ self.new.calls.faults }
     {
         if self.calls.next_fails() {
@@ -91,7 +93,7 @@ impl Store for MemStore {
     }
 }
 
-// The place of the first file with this name.
+/// The place of the first file with this name.
 fn place_of(files: &[File], name: &str) -> Option<usize>
     ensures { result ≡ position (has_name name.now) files.now }
 {

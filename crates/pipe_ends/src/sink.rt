@@ -16,9 +16,9 @@ pub trait Sink {
 
     /// Takes all of the bytes, or after a refusal the first of them: none, some or all.
     fn push(&mut self, alloc: Global, bytes: &[u8]) -> Result<(), PushFault>
-        ensures all { OnOk result (TellsAll (pushed self.old) bytes.now (pushed self.new)) }
-        ensures some { OnErr result (TellsSome (pushed self.old) bytes.now (pushed self.new)) }
+        ensures ok { OnOk result (TellsAll (pushed self.old) bytes.now (pushed self.new)) }
+        ensures err { OnErr result (TellsSome (pushed self.old) bytes.now (pushed self.new)) }
         ensures later { faults self.old ≤ faults self.new }
-        ensures failed { IsErrOf result PushFault.Failed
+        ensures cause { IsErrOf result PushFault.Failed
             → Rose (faults self.old) (faults self.new) };
 }

@@ -20,15 +20,15 @@ pub trait Store {
         ensures absent { IsErrOf result GetFault.Absent → TellsNoFile (files self.old) name.now }
         ensures same { files self.new ≡ files self.old }
         ensures later { faults self.old ≤ faults self.new }
-        ensures failed { IsErrOf result GetFault.Failed
+        ensures cause { IsErrOf result GetFault.Failed
             → Rose (faults self.old) (faults self.new) };
 
     /// Gives the file of this name these bytes, and makes it where there is none. Every other file
     /// stays as it is, and so does this one after a refusal.
     fn put(&mut self, alloc: Global, name: &str, bytes: &[u8]) -> Result<(), PutFault>
-        ensures put { OnOk result (TellsPut (files self.old) name.now bytes.now (files self.new)) }
+        ensures ok { OnOk result (TellsPut (files self.old) name.now bytes.now (files self.new)) }
         ensures same { OnErr result (files self.new ≡ files self.old) }
         ensures later { faults self.old ≤ faults self.new }
-        ensures failed { IsErrOf result PutFault.Failed
+        ensures cause { IsErrOf result PutFault.Failed
             → Rose (faults self.old) (faults self.new) };
 }

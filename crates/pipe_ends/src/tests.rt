@@ -1,22 +1,25 @@
 //! Rows from outside, and each call once with ample memory.
+use crate::failing_disk::{Failing, FailingDisk};
 use crate::{
     DirStore, File, GetFault, MemSink, MemStore, PushFault, PutFault, Sink, StdSink, Store,
     put_hex, put_number,
 };
 use std::alloc::Global;
-use std::fs;
+use std::fs::{self, Permissions};
+use std::os::unix::fs::{PermissionsExt, symlink};
 use std::test::Fail;
 
-// What a store answers, through its bound.
+/// What a store answers to `get`, through its bound.
 fn read<S: Store>(alloc: Global, store: &mut S, name: &str) -> Result<Vec<u8>, GetFault> {
     store.get(alloc, name)
 }
 
+/// What a store answers to `put`, through its bound.
 fn write<S: Store>(alloc: Global, store: &mut S, name: &str, text: &str) -> Result<(), PutFault> {
     store.put(alloc, name, text.as_bytes())
 }
 
-// What a sink answers, through its bound.
+/// What a sink answers, through its bound.
 fn say<K: Sink>(alloc: Global, sink: &mut K, text: &str) -> Result<(), PushFault> {
     sink.push(alloc, text.as_bytes())
 }
@@ -123,6 +126,62 @@ fn a_folder_is_a_store(rt: HostRuntime) -> Result<(), Fail> {
         "a folder"
     );
     Ok(())
+}
+
+#[test]
+fn a_put_that_fails_leaves_the_old_file_and_no_new_one(rt: HostRuntime) -> Result<(), Fail> {
+    let alloc = rt.alloc();
+    let name = "pipe_ends-a_put_that_fails";
+    fs::write(&rt, name, "the old bytes")?;
+    for failing in [
+        Failing::Create,
+        Failing::Write,
+        Failing::Sync,
+        Failing::Rename,
+    ] {
+        let disk = (FailingDisk { rt: &rt, failing }, alloc);
+        let mut store = DirStore::new(&disk);
+        let put = write(alloc, &mut store, name, "new");
+        assert_eq!(rt; put, Err(PutFault::Failed), "{failing:?}: the answer");
+        let bytes = fs::read(&rt, name)?;
+        assert_eq!(rt;
+            bytes.as_slice(),
+            b"the old bytes".as_slice(),
+            "{failing:?}: the file"
+        );
+        let left = fs::exists(&rt, ".flash_cli-new-0")?;
+        assert_eq!(rt; left, false, "{failing:?}: the new file");
+    }
+    fs::remove_file(&rt, name)?;
+    Ok(())
+}
+
+#[test]
+fn a_put_follows_a_link_and_keeps_the_permissions(rt: HostRuntime) -> Result<(), Fail> {
+    let alloc = rt.alloc();
+    let (name, link) = ("pipe_ends-a_put_follows", "pipe_ends-a_link");
+    fs::write(&rt, name, "old")?;
+    fs::set_permissions(&rt, name, Permissions::from_mode(0o640))?;
+    symlink(&rt, name, link)?;
+    let mut store = DirStore::new(&rt);
+    let put = write(alloc, &mut store, link, "new");
+    let bytes = fs::read(&rt, name)?;
+    let mode = fs::metadata(&rt, name)?.permissions().mode();
+    let linked = fs::symlink_metadata(&rt, link)?.is_symlink();
+    fs::remove_file(&rt, link)?;
+    fs::remove_file(&rt, name)?;
+    assert_eq!(rt; put, Ok(()), "the answer");
+    assert_eq!(rt; bytes.as_slice(), b"new".as_slice(), "the file");
+    assert_eq!(rt; mode & 0o777, 0o640, "its permissions");
+    assert_eq!(rt; linked, true, "the link");
+    Ok(())
+}
+
+#[test]
+fn a_full_device_is_a_fault(rt: HostRuntime) {
+    let mut store = DirStore::new(&rt);
+    let put = write(rt.alloc(), &mut store, "/dev/full", "text");
+    assert_eq!(rt; put, Err(PutFault::Failed));
 }
 
 #[test]

@@ -1,4 +1,5 @@
--- The machine after an allowed event is the table's, and each event of the table keeps a machine safe.
+-- The machine after an allowed event is the table's, and each event of the table keeps a machine
+-- safe.
 use Rattle.std.proofs.Common.{refl, sym, subst}
 use Rattle.duo_machine.specs.Safe.{Safe}
 use Rattle.duo_machine.proofs.StepKeeps.{event_keeps_safe}

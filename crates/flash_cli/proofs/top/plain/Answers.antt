@@ -1,6 +1,18 @@
-use Rattle.flash_cli.proofs.ReportLemmas.{nothing_pushed}
+use mathlib.Core.Logic.{inl}
+use Rattle.std.proofs.Common.{refl}
+use Rattle.flash_cli.proofs.OutcomeLemmas.{nothing_done, commands_puts}
 use Rattle.flash_cli.proofs.top.plain.Goals as goal
 
--- no text was pushed before the program halted for want of memory
-pub returns-clause-cut_short : goal.returns-clause-cut_short
-returns-clause-cut_short g c = λ _. nothing_pushed _ _ _
+-- the work ended before a file was put
+pub returns-in-Err-clause-unput : goal.returns-in-Err-clause-unput
+returns-in-Err-clause-unput g c = λ _. nothing_done _ _ _ _ c.work.ensures.same
+
+-- the work ran out of memory
+pub returns-in-Err-clause-memory : goal.returns-in-Err-clause-memory
+returns-in-Err-clause-memory g c = λ _. inl (nothing_done _ _ _ _ c.work.ensures.same)
+
+-- only a command puts files
+pub returns-in-Err-put_files-clause-command : goal.returns-in-Err-put_files-clause-command
+returns-in-Err-put_files-clause-command g c = λ _.
+    commands_puts _ _ _ c.in-Ok.finished.answer.puts.items c.in-Ok.ensures.ok refl
+    (rw c.deref.ensures.value at c.in-Err-put_files.ensures.some)

@@ -1,17 +1,15 @@
-use Rattle.std.proofs.Common.{rules, ◌∙◌, ◌-◌, ap, sym, subst, inr, [], Some, append-nil, slice_index_or}
+use Rattle.std.proofs.Common.{rules, ◌∙◌, ◌-◌, ap, sym, subst, inr, slice_index_or}
 use Rattle.std.specs.Prelude.{IsSome}
 use Rattle.core_state.specs.Registers.{starting, restored}
-use Rattle.duo_machine.specs.declared.events.Kind.TheVariants.{Back}
 use Rattle.park_words.proofs.tests.restore_own.Goals as goal
 
-pub give_done-requires-clause-value : goal.give_done-requires-clause-value
-give_done-requires-clause-value c =
-    let k = c.in-Ok.ensures.value in let took = c.in-Ok.ensures.taken.1 in let put =
-    c.put_back.ensures in let core = c.core.ensures.core in
+pub give_event-requires-clause-value : goal.give_event-requires-clause-value
+give_event-requires-clause-value c =
+    let k = c.in-Ok.ensures.value in let took = c.in-Ok.ensures.ok.1 in let put =
+    c.put_back.ensures in let core = c.core.ensures.exact in
     let was = c.in-Ok.tally.registers in let is = c.put_back.new.self.registers in record {
       other_is = ap (λ n. slice_index_or is (1 - n) starting) (sym core)
           ∙ (put.other ∙ (ap (λ n. slice_index_or was (1 - n) starting) core ∙ k.other_is));
-      kind = Some Back;
       does = (
         inr (ap (λ z. z.view.phase) took ∙ c.requires.owning),
         subst (λ z. IsSome z.view.registers.saved) (sym took) c.requires.saved,
@@ -19,7 +17,5 @@ give_done-requires-clause-value c =
             ∙ (put.own ∙ ap restored (ap (λ n. slice_index_or was n starting) core ∙ k.own)),
         put.rest.0 ∙ k.running,
       );
-      items = [];
-      longer = sym (append-nil _);
       stands_by = search rules;
     }

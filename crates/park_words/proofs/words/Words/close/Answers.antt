@@ -1,7 +1,8 @@
 use Rattle.std.proofs.Common.{rules, ◌≡◌, subst, sym, ap, ◌∙◌, Some}
 use Rattle.park_words.specs.Views.{in_hand}
+use Rattle.park_words.specs.Story.{RanToRest}
 use Rattle.park_words.specs.Told.{IsLast}
-use Rattle.park_words.proofs.Seats.{joins, closes_with}
+use Rattle.park_words.proofs.Seats.{joins, closes}
 use Rattle.park_words.proofs.words.Words.close.Goals as goal
 
 pub join_seat-requires : goal.join_seat-requires
@@ -21,16 +22,16 @@ join_seat-requires g c =
 pub unreachable-requires : goal.unreachable-requires
 unreachable-requires g c =
     let V = g.V.Records in let joined = c.join_seat in
-    let last = closes_with V.records V.runs V.stands c.self.inside.table.shared.key.value
+    let last = closes V.records V.runs V.stands c.self.inside.table.shared.key.value
     joined.new.seat.id c.a.inside.seat.me.0 c.b.inside.seat.me.0 joined.new.seat.me.0 _ _ _
     (ap (λ m. m.0) joined.ensures.2) c.close_with-closed.ensures.values.2 c.take-slot.ensures.value
     in
     c.in_default.not-Some last.0 last.1
 
-pub returns : goal.returns
-returns g c =
+pub returns-clause-value : goal.returns-clause-value
+returns-clause-value g c =
     let V = g.V.Records in let joined = c.join_seat in
-    let last = closes_with V.records V.runs V.stands c.self.inside.table.shared.key.value
+    let last = closes V.records V.runs V.stands c.self.inside.table.shared.key.value
     joined.new.seat.id c.a.inside.seat.me.0 c.b.inside.seat.me.0 joined.new.seat.me.0 _ _ _
     (ap (λ m. m.0) joined.ensures.2) c.close_with-closed.ensures.values.2 c.take-slot.ensures.value
     in
@@ -38,3 +39,13 @@ returns g c =
     let is : last.0 ≡ c.in-Some.value = cc same in
     subst (λ (z : g.row.V.Denot × _ × _). IsLast V.records V.runs V.stands z.0 z.1 z.2)
     (λ k. (is k, (c.a.view_is k).view, (c.b.view_is k).view)) last.2
+
+pub returns-clause-run : goal.returns-clause-run
+returns-clause-run g c =
+    let V = g.V.Records in let joined = c.join_seat in
+    let last = closes V.records V.runs V.stands c.self.inside.table.shared.key.value
+    joined.new.seat.id c.a.inside.seat.me.0 c.b.inside.seat.me.0 joined.new.seat.me.0 _ _ _
+    (ap (λ m. m.0) joined.ensures.2) c.close_with-closed.ensures.values.2 c.take-slot.ensures.value
+    in
+    subst (λ (z : _ × _). RanToRest z.0 z.1)
+    (λ k. ((c.a.view_is k).view, (c.b.view_is k).view)) last.3

@@ -1,5 +1,5 @@
 use Rattle.std.proofs.Common.{rules, ap, ◌∙◌, arith}
-use Rattle.park_words.proofs.Exchanges.{sees}
+use Rattle.park_words.proofs.Events.{sees}
 use Rattle.park_words.proofs.words.Words.look.Goals as goal
 
 pub load-found-requires : goal.load-found-requires

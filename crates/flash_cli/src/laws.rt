@@ -1,0 +1,25 @@
+//! What follows from the clauses of the top call, over every call.
+
+ghost use Rattle.flash_cli.specs.Laws.{UsageIsOfNoCommand, NoCommandIsUsage, ToldFilesDetermine, RefusedPutsNothing, FaultlessIsWork};
+
+/// The status `Usage` is that of words that are no command, and of no others.
+pub(crate) fn usage_is_of_no_command()
+    ensures only { UsageIsOfNoCommand }
+    ensures always { NoCommandIsUsage }
+{}
+
+/// In a store that tells its files the words and the files determine how a call ends whole, so a
+/// refusal comes exactly where its case is the first that holds.
+pub(crate) fn told_files_determine_a_call()
+    ensures exact { ToldFilesDetermine }
+{}
+
+/// A refused command puts nothing.
+pub(crate) fn a_refused_command_puts_nothing()
+    ensures none { RefusedPutsNothing }
+{}
+
+/// Without a fault of the store or the sink the work comes to its end, unless memory runs out.
+pub(crate) fn a_call_without_a_fault_is_carried_out()
+    ensures ok { FaultlessIsWork }
+{}
