@@ -1,6 +1,20 @@
-//! The app image: for now, the two address spaces that a segment may be loaded into.
+//! The app image of the ESP32: header, segment heads, description, footer, the address spaces of the cache, and what a
+//! whole image is.
 #![tactic(auto)]
 
-mod address_space;
+mod description;
+mod fields;
+mod footer;
+mod header;
+mod laws;
+mod segment;
+mod space;
+#[cfg(test)]
+mod tests;
 
-pub use address_space::Space;
+pub use description::AppDesc;
+pub use footer::footer_end;
+pub use header::Header;
+pub use laws::{head_has_its_bytes, headers_are_their_bytes};
+pub use segment::SegmentHead;
+pub use space::{Space, is_code, is_data};

@@ -1,0 +1,17 @@
+mod First
+mod Reading
+mod WalkText
+mod WalkEnds
+mod HeaderFacts
+mod PlanFacts
+mod WholeFacts
+mod GoesOn
+mod KeepFacts
+mod Noted
+mod Steps
+mod HeadSteps
+mod HeaderSteps
+mod Bounds
+mod EndFacts
+mod VerifierFacts
+pub mod HeldFacts
