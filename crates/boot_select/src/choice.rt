@@ -13,7 +13,7 @@ use partition_table::{App, Layout};
 /// slot `(sequence - 1) mod slots`, and without one the factory application is named.
 #[tactic(auto, unfolding(crate::specs::Choice::named_of))]
 pub fn named(layout: &Layout, e0: &Entry, e1: &Entry) -> App
-    ensures { result ≡ named_of layout.now e0.now e1.now }
+    ensures exact { result ≡ named_of layout.now e0.now e1.now }
 {
     let entry = match active(e0, e1) {
         None => return App::Factory,

@@ -3,8 +3,7 @@ use Rattle.std.specs.Prelude.{ℕ, ◌==◌, Bool, List, ◌++◌, if◌then◌e
 use Rattle.pipe_ends.specs.Hex.{hex_text}
 use Rattle.partition_table.specs.declared.app.App.{App}
 use Rattle.partition_table.specs.declared.app.App.TheVariants.{Ota, Factory, Test}
-use Rattle.partition_table.specs.declared.table.TableBad.{TableBad}
-use Rattle.partition_table.specs.declared.table.TableBad.TheVariants.{Later}
+use Rattle.flash_cli.specs.TableText.{table_text}
 use Rattle.otadata.specs.declared.entry.Entry.{Entry}
 use Rattle.otadata.specs.declared.state.TheConstants.{NEW, PENDING_VERIFY, VALID, INVALID, ABORTED, UNDEFINED}
 use Rattle.otadata.specs.Choice.{is_valid}
@@ -55,10 +54,6 @@ names_line app = codes "names " ++ app_text app ++ codes "\n"
 -- the lines of a choice: both entries, and the application that they name
 unfoldable pub choice_text : Choice → List ℕ
 choice_text choice = entry_line 0 choice.first ++ entry_line 1 choice.second ++ names_line choice.app
-
--- what is wrong with a table
-abbrev pub table_text : TableBad → List ℕ
-table_text Later = codes "table later"
 
 -- what a refusal says, of a command that reads files of these names
 abbrev pub refusal_text : List (List ℕ) → Refusal → List ℕ

@@ -1,9 +1,7 @@
 //! The command `choose`: from the bytes of a flash to what its OTA data choose.
 
-ghost use Rattle.std.specs.Prelude.{◌≡◌, ◌≤◌, ◌+◌, ◌*◌, ◌<◌, ◌^◌, length, slice_range, IfOk};
-ghost use Rattle.nor_device.specs.declared.step.TheConstants.{SECTOR_SIZE};
-ghost use Rattle.otadata.specs.Entry.{entry_of};
-ghost use Rattle.flash_cli.specs.Choose.{choice_of, choice_in, layout_in};
+ghost use Rattle.std.specs.Prelude.{◌≡◌, ◌≤◌, ◌+◌, length};
+ghost use Rattle.flash_cli.specs.Choose.{choice_of, choice_in};
 ghost use Rattle.flash_cli.specs.Command.{Choose};
 ghost use Rattle.flash_cli.specs.Report.{IsEnd, Gives, text_of_choice};
 
@@ -12,9 +10,9 @@ use crate::refusal::Refusal;
 use crate::stop::Stop;
 use crate::text::put_choice;
 use boot_select::named;
-use nor_device::{SECTOR_SIZE, is_flash_size};
-use otadata::Entry;
-use partition_table::{App, Layout, TABLE_OFFSET, TABLE_SIZE, Table, TableBad};
+use nor_device::is_flash_size;
+use otadata::{Entry, entry_in};
+use partition_table::{App, Layout, layout_in};
 use pipe_ends::Store;
 use std::alloc::Global;
 
@@ -37,7 +35,7 @@ pub(crate) fn choose(flash: &[u8]) -> Result<Choice, Refusal>
             size: flash.len() as u64,
         });
     }
-    match layout_of(flash) {
+    match layout_in(flash) {
         Ok(layout) => Ok(choice_in(flash, &layout)),
         Err(why) => Err(Refusal::Table(why)),
     }
@@ -69,43 +67,17 @@ fn choice_lines(alloc: Global, flash: &[u8]) -> Result<Vec<u8>, Stop>
     Ok(text)
 }
 
-/// The layout of a flash by the table at 0x8000.
-#[tactic(auto, unfolding(crate::specs::Choose::layout_in))]
-fn layout_of(flash: &[u8]) -> Result<Layout, TableBad>
-    requires least { 0x100000 ≤ length flash.now }
-    requires most { length flash.now ≤ 0x1000000 }
-    ensures exact { result ≡ layout_in flash.now }
-    ensures within { IfOk result (λ layout. layout.otadata + 2 * SECTOR_SIZE ≤ length flash.now) }
-{
-    let at = TABLE_OFFSET as usize;
-    let mut bytes = [0; TABLE_SIZE];
-    bytes.copy_from_slice(&flash[at..at + TABLE_SIZE]);
-    let table = Table::read(&bytes, flash.len() as u32)?;
-    table.layout()
-}
-
 /// What the OTA data of a flash with this layout choose.
 #[tactic(auto, unfolding(crate::specs::Choose::choice_in))]
 fn choice_in(flash: &[u8], layout: &Layout) -> Choice
-    requires { layout.now.otadata + 2 * SECTOR_SIZE ≤ length flash.now }
-    ensures { result ≡ choice_in flash.now layout.now }
+    requires within { layout.now.otadata + 8192 ≤ length flash.now }
+    ensures exact { result ≡ choice_in flash.now layout.now }
 {
-    let otadata = layout.otadata as usize;
-    let first = entry_at(flash, otadata);
-    let second = entry_at(flash, otadata + SECTOR_SIZE as usize);
+    let first = entry_in(flash, layout.otadata, 0);
+    let second = entry_in(flash, layout.otadata, 1);
     Choice {
         first,
         second,
         app: named(layout, &first, &second),
     }
-}
-
-/// The entry whose 32 bytes begin at this place.
-fn entry_at(flash: &[u8], at: usize) -> Entry
-    requires { at + 32 ≤ length flash.now }
-    ensures { result ≡ entry_of (slice_range flash.now at (at + 32)) }
-{
-    let mut bytes = [0; 32];
-    bytes.copy_from_slice(&flash[at..at + 32]);
-    Entry::read(&bytes)
 }

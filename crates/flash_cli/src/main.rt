@@ -7,6 +7,7 @@ mod files;
 mod refusal;
 mod status;
 mod stop;
+mod table_text;
 #[cfg(test)]
 mod tests;
 mod text;

@@ -19,6 +19,11 @@ const PARTITIONS: [(u8, u8, u32, u32); 6] = [
     (0, 0x11, 0x210000, 0x100000),
 ];
 
+/// The MD5 digest of the rows of these partitions, without labels, by Python's `hashlib.md5`.
+const DIGEST: [u8; 16] = [
+    0x59, 0x7B, 0x3B, 0x1A, 0x25, 0xDB, 0x86, 0x2A, 0x81, 0x51, 0xE6, 0xD3, 0x48, 0x53, 0xCC, 0xFA,
+];
+
 /// Sequence, state and CRC of an entry.
 type Numbers = (u32, u32, u32);
 
@@ -103,6 +108,7 @@ fn flash_of(alloc: Global, row: &Row<'_>) -> Result<Vec<u8>, AllocError> {
         write(&mut flash, at + 8, &size.to_le_bytes());
     }
     write(&mut flash, 0x80C0, &[0xEB, 0xEB]);
+    write(&mut flash, 0x80D0, &DIGEST);
     for (i, (seq, state, crc)) in row.entries.iter().enumerate() {
         let at = 0xD000 + 0x1000 * i;
         write(&mut flash, at, &seq.to_le_bytes());
@@ -139,7 +145,7 @@ fn answer(alloc: Global, row: &Row<'_>) -> Result<(Status, MemSink), AllocError>
 
 /// The rows.
 fn rows<'a>() -> [Row<'a>; 18] {
-    let later = Status::Refused(Refusal::Table(TableBad::Later));
+    let magic = Status::Refused(Refusal::Table(TableBad::Magic { row: 5 }));
     let absent = Status::Refused(Refusal::Absent { file: 0 });
     let short = Status::Refused(Refusal::FlashSize { size: 3 });
     [
@@ -178,8 +184,8 @@ fn rows<'a>() -> [Row<'a>; 18] {
         ),
         Row {
             change: (0x80A0, 0x00),
-            status: later,
-            ..worded(&["choose", "F0"], later, "refused: table later\n")
+            status: magic,
+            ..worded(&["choose", "F0"], magic, "refused: table magic row 5\n")
         },
         Row {
             size: 3,

@@ -1,14 +1,15 @@
 //! The lines that the program prints.
 
 ghost use Rattle.std.specs.Prelude.{◌≡◌, ◌≤◌, ◌++◌, OnOk, codes, option_copied, decimal, List, ℕ};
-ghost use Rattle.flash_cli.specs.Text.{state_name, state_text, app_text, verdict_text, entry_line, names_line, choice_text, refusal_line, table_text};
+ghost use Rattle.flash_cli.specs.Text.{state_name, state_text, app_text, verdict_text, entry_line, names_line, choice_text, refusal_line};
 ghost use Rattle.flash_cli.specs.Command.{names_of, shown};
 
 use crate::choose::Choice;
 use crate::command::Command;
 use crate::refusal::Refusal;
+use crate::table_text::put_table_bad;
 use otadata::{Entry, state};
-use partition_table::{App, TableBad};
+use partition_table::App;
 use pipe_ends::{Memory, put_hex, put_number};
 
 /// The line that says how the program is called.
@@ -119,16 +120,7 @@ pub(crate) fn put_refusal(
             put_text(out, "flash size ")?;
             put_number(out, size)?;
         }
-        Refusal::Table(why) => put_text(out, table_text(why))?,
+        Refusal::Table(why) => put_table_bad(out, why)?,
     }
     put_text(out, "\n")
-}
-
-/// What is wrong with a table.
-fn table_text(why: TableBad) -> &'static str
-    ensures { result.now ≡ table_text why }
-{
-    match why {
-        TableBad::Later => "table later",
-    }
 }

@@ -1,15 +1,16 @@
 -- An entry and its 32 bytes say the same.
-use Rattle.std.proofs.Common.{◌≡◌, ℕ, ◌+◌, ◌*◌, ◌/◌, ◌%◌, ◌<◌, ◌≤◌, List, [], ◌∷◌, ◌++◌, length, take, drop, get_or, refl, sym, ap, ◌∙◌, arith}
+use Rattle.std.proofs.Common.{◌≡◌, ℕ, ◌+◌, ◌*◌, ◌/◌, ◌⊎◌, inl, inr, ◌%◌, ◌<◌, ◌≤◌, List, [], ◌∷◌, ◌++◌, length, take, drop, get_or, refl, sym, ap, ◌∙◌, arith}
 use Rattle.std.proofs.Math.Seq.{take-add}
-use Rattle.std.proofs.lemmas.List.{append_assoc, append-nil, drop-drop, drop_all, drop_at, length-append, length-drop, length-take, length-take-le, take_all, take_at}
-use Rattle.std.proofs.lemmas.List.Elements.{All-drop, All-from_get_or, All-get_or}
+use Rattle.std.proofs.lemmas.Bool.{cases_lt}
+use Rattle.std.proofs.lemmas.List.{append_assoc, append-nil, drop-drop, drop_all, get_or-drop, get_or_past, drop_at, length-append, length-drop, length-take, length-take-le, take_all, take_at}
+use Rattle.std.proofs.lemmas.List.Elements.{All-drop, All-from_get_or, All-get_or, All-take}
 use Rattle.std.proofs.lemmas.Slice.{take-put_mid}
 use Rattle.std.specs.List.{All}
 use borrow.Rule.Slice.PartMut.{put_mid}
 use Rattle.byteorder.specs.Endian.{little_bytes, little_number}
-use Rattle.byteorder.specs.Numbers.{length-bytes_low_first, little_from-take, little_number-reads_back}
+use Rattle.byteorder.specs.Numbers.{length-bytes_low_first, little_from-lt, little_from-take, little_number-reads_back}
 use Rattle.otadata.specs.declared.entry.Entry.{Entry}
-use Rattle.otadata.specs.Entry.{entry_bytes, entry_of, IsSized}
+use Rattle.otadata.specs.Entry.{entry_bytes, entry_in, entry_of, IsSized, IsStored}
 
 -- ---- from bytes to numbers and back
 
@@ -148,3 +149,51 @@ entry_bytes-all bytes long small =
 -- the bytes of an entry are the entry
 pub entry_of-all : (e : Entry) → IsSized e → entry_of (entry_bytes e) ≡ e
 entry_of-all e sized = ap entry_of (sym (append-nil (entry_bytes e))) ∙ entry_of-bytes e [] sized
+
+-- an entry has 12 bytes and its label
+pub length-entry_bytes : (e : Entry) → length (entry_bytes e) ≡ 12 + length e.label
+unfolding entry_bytes
+length-entry_bytes e =
+    let s = length-bytes_low_first 0 4 e.seq in
+    let t = length-bytes_low_first 0 4 e.state in
+    let c = length-bytes_low_first 0 4 e.crc in
+    simp length-append (omega arith)
+
+-- ---- entries that 32 bytes hold
+
+-- a byte of a list of bytes, or the 0 past its end
+pub byte_lt : (bytes : List ℕ) → All (λ b. b < 256) bytes → (i : ℕ) → get_or bytes i 0 < 256
+byte_lt bytes small i = at (cases_lt i (length bytes))
+  where
+    at : (i < length bytes) ⊎ (length bytes ≤ i) → get_or bytes i 0 < 256
+    at (inl below) = All-get_or (λ (b : ℕ). b < 256) bytes i 0 below small
+    at (inr past) = rw (get_or_past bytes i 0 past) (omega arith)
+
+-- what is read of 32 bytes is stored
+pub stored_by : (bytes : List ℕ) → 32 ≤ length bytes → ((i : ℕ) → get_or bytes i 0 < 256) → IsStored (entry_of bytes)
+unfolding entry_of
+stored_by bytes long small =
+    let from : (n k : ℕ) → get_or (drop n bytes) k 0 < 256 = λ n k. rw (get_or-drop n bytes k 0) (small (n + k)) in
+    let whole : All (λ b. b < 256) bytes = All-from_get_or (λ (b : ℕ). b < 256) bytes 0 (λ i h. small i) in
+    record {
+      sized = record {
+        seq = little_from-lt 0 4 bytes small;
+        label = length-take-le 20 (drop 4 bytes) (omega (arith, length-drop 4 bytes));
+        state = little_from-lt 0 4 (drop 24 bytes) (from 24);
+        crc = little_from-lt 0 4 (drop 28 bytes) (from 28);
+      };
+      label = All-take (λ (b : ℕ). b < 256) 20 (drop 4 bytes) (All-drop (λ (b : ℕ). b < 256) 4 bytes whole);
+    }
+
+-- so is what is read of a list of bytes
+pub bytes_stored : (bytes : List ℕ) → 32 ≤ length bytes → All (λ b. b < 256) bytes → IsStored (entry_of bytes)
+bytes_stored bytes long small = stored_by bytes long (byte_lt bytes small)
+
+-- the entry of a sector in a flash of bytes is stored
+pub entry_in-stored : (flash : List ℕ) (otadata sector : ℕ) → otadata + 4096 * sector + 32 ≤ length flash
+    → All (λ b. b < 256) flash → IsStored (entry_in flash otadata sector)
+entry_in-stored flash otadata sector inside small =
+    let at = otadata + 4096 * sector in
+    let P : ℕ → Type 0 = λ b. b < 256 in
+    let cut : length (take 32 (drop at flash)) ≡ 32 = length-take-le 32 (drop at flash) (omega (arith, length-drop at flash)) in
+    bytes_stored (take 32 (drop at flash)) (omega arith) (All-take P 32 (drop at flash) (All-drop P at flash small))

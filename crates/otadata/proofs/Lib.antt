@@ -1,4 +1,4 @@
 mod PolynomialLemmas
 mod CrcLemmas
-mod EntryLemmas
-mod ChoiceLemmas
+pub mod EntryLemmas
+pub mod ChoiceLemmas

@@ -1,5 +1,5 @@
 -- An entry of the OTA data and its 32 bytes.
-use Rattle.std.specs.Prelude.{◌≡◌, ◌<◌, ◌^◌, ℕ, List, ◌++◌, length, take, drop}
+use Rattle.std.specs.Prelude.{◌≡◌, ◌<◌, ◌^◌, ◌+◌, ◌*◌, ℕ, List, ◌++◌, length, take, drop, All}
 use Rattle.byteorder.specs.Endian.{little_number, little_bytes}
 use Rattle.otadata.specs.declared.entry.Entry.{Entry}
 
@@ -22,3 +22,12 @@ pub record IsSized (e : Entry) : Type 0 where
   pub label : length e.label ≡ 20
   pub state : e.state < 2 ^ 32
   pub crc : e.crc < 2 ^ 32
+
+-- an entry as 32 bytes hold it: each field has its size, and the label is made of bytes
+pub record IsStored (e : Entry) : Type 0 where
+  pub sized : IsSized e
+  pub label : All (λ b. b < 256) e.label
+
+-- the entry of this sector of the OTA data, which begin at this place of a flash
+abbrev pub entry_in : List ℕ → ℕ → ℕ → Entry
+entry_in flash otadata sector = entry_of (take 32 (drop (otadata + 4096 * sector) flash))

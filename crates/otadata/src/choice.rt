@@ -2,7 +2,7 @@
 
 ghost use Rattle.std.specs.Prelude.{◌≡◌, ◌<◌, ◌≤◌, ◌↔◌, IfSome, IsTrue, None, Some};
 ghost use Rattle.otadata.specs.declared.entry.Entry.{Entry};
-ghost use Rattle.otadata.specs.Choice.{Matches, IsValid, AreBothInvalid, IsFirst, IsSecond};
+ghost use Rattle.otadata.specs.Choice.{Matches, IsValid, AreBothInvalid, FirstIsActive, SecondIsActive};
 ghost use Rattle.otadata.specs.Choice.{matches, is_valid, active_of, slot_named};
 
 use crate::entry::Entry;
@@ -12,10 +12,10 @@ use crate::entry::Entry;
 #[tactic(auto, unfolding(crate::specs::Choice::active_of))]
 pub fn active(first: &Entry, second: &Entry) -> Option<u8>
     ensures none { (result ≡ None) ↔ AreBothInvalid first.now second.now }
-    ensures first { (result ≡ Some 0) ↔ IsFirst first.now second.now }
-    ensures second { (result ≡ Some 1) ↔ IsSecond first.now second.now }
+    ensures first { (result ≡ Some 0) ↔ FirstIsActive first.now second.now }
+    ensures second { (result ≡ Some 1) ↔ SecondIsActive first.now second.now }
     ensures within { IfSome result (λ number. number < 2) }
-    ensures value { result ≡ active_of first.now second.now }
+    ensures exact { result ≡ active_of first.now second.now }
 {
     let second_counts = second.is_valid() && (!first.is_valid() || first.seq < second.seq);
     if second_counts {
@@ -32,7 +32,7 @@ pub fn slot_of(seq: u32, slots: u8) -> u8
     requires numbered { 0 < seq }
     requires some { 0 < slots }
     requires most { slots ≤ 16 }
-    ensures value { result ≡ slot_named seq slots }
+    ensures exact { result ≡ slot_named seq slots }
     ensures within { result < slots }
 {
     ((seq - 1) % u32::from(slots)) as u8
@@ -44,7 +44,7 @@ pub fn choices_are_decided()
     ensures matches { (e : Entry) → IsTrue (matches e) ↔ Matches e }
     ensures valid { (e : Entry) → IsTrue (is_valid e) ↔ IsValid e }
     ensures none { (e f : Entry) → (active_of e f ≡ None) ↔ AreBothInvalid e f }
-    ensures first { (e f : Entry) → (active_of e f ≡ Some 0) ↔ IsFirst e f }
-    ensures second { (e f : Entry) → (active_of e f ≡ Some 1) ↔ IsSecond e f }
+    ensures first { (e f : Entry) → (active_of e f ≡ Some 0) ↔ FirstIsActive e f }
+    ensures second { (e f : Entry) → (active_of e f ≡ Some 1) ↔ SecondIsActive e f }
     ensures within { (e f : Entry) → IfSome (active_of e f) (λ number. number < 2) }
 {}

@@ -14,7 +14,7 @@ const START: u32 = 0;
 /// The CRC of an entry: of the four bytes of its sequence alone (ESP-IDF,
 /// `bootloader_common_ota_select_crc`). It equals the usual CRC-32 of the four complemented bytes.
 pub fn crc_of(seq: u32) -> u32
-    ensures { result ≡ crc seq }
+    ensures exact { result ≡ crc seq }
 {
     let mut register = START ^ seq;
     for _ in 0..u32::BITS {
@@ -25,7 +25,7 @@ pub fn crc_of(seq: u32) -> u32
 
 /// The register after one more bit.
 fn shifted(register: u32) -> u32
-    ensures { result ≡ shifted register }
+    ensures exact { result ≡ shifted register }
 {
     if register & 1 == 0 {
         register >> 1

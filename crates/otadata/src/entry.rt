@@ -1,9 +1,9 @@
 //! An entry of the OTA data: the first 32 bytes of a sector, as sequence (4 bytes), label (20),
 //! state (4) and CRC (4), each number with its lowest byte first.
 
-ghost use Rattle.std.specs.Prelude.{◌≡◌, ◌<◌, ◌≤◌, ◌++◌, ◌↔◌, IsTrue, List, ℕ, All, length, take};
+ghost use Rattle.std.specs.Prelude.{◌≡◌, ◌<◌, ◌≤◌, ◌+◌, ◌*◌, ◌++◌, ◌↔◌, IsTrue, List, ℕ, All, length, take};
 ghost use Rattle.otadata.specs.declared.entry.Entry.{Entry};
-ghost use Rattle.otadata.specs.Entry.{IsSized, entry_of, entry_bytes};
+ghost use Rattle.otadata.specs.Entry.{IsSized, IsStored, entry_bytes, entry_in, entry_of};
 ghost use Rattle.otadata.specs.Choice.{Matches, IsValid, matches, is_valid};
 
 use crate::crc::crc_of;
@@ -14,7 +14,7 @@ use byteorder::{ByteOrder, LittleEndian};
 pub const BLANK: u32 = 0xFFFF_FFFF;
 
 /// What a sector of the OTA data says (ESP-IDF, `esp_ota_select_entry_t`).
-#[derive(Clone, Copy, Debug, PartialEq, Eq)]
+#[derive(Clone, Copy, Debug, Default, PartialEq, Eq)]
 pub struct Entry {
     /// Counts the updates from 1, and so names the slot.
     pub seq: u32,
@@ -29,8 +29,9 @@ pub struct Entry {
 impl Entry {
     /// The entry that 32 bytes are.
     pub fn read(bytes: &[u8; 32]) -> Entry
-        ensures entry { result ≡ entry_of bytes.now }
+        ensures exact { result ≡ entry_of bytes.now }
         ensures bytes { entry_bytes result ≡ bytes.now }
+        ensures stored { IsStored result }
     {
         let mut label = [0; 20];
         label.copy_from_slice(&bytes[4..24]);
@@ -45,7 +46,7 @@ impl Entry {
     /// Writes the 32 bytes of the entry.
     pub fn put(&self, out: &mut [u8; 32])
         ensures bytes { out.new ≡ entry_bytes self.now }
-        ensures entry { entry_of out.new ≡ self.now }
+        ensures same { entry_of out.new ≡ self.now }
     {
         let Entry {
             seq,
@@ -63,8 +64,8 @@ impl Entry {
     /// sector.
     #[tactic(auto, unfolding(crate::specs::Choice::matches))]
     pub fn matches(&self) -> bool
-        ensures meaning { IsTrue result ↔ Matches self.now }
-        ensures value { result ≡ matches self.now }
+        ensures fact { IsTrue result ↔ Matches self.now }
+        ensures exact { result ≡ matches self.now }
     {
         self.crc == crc_of(self.seq) && self.seq != 0 && self.seq != BLANK
     }
@@ -72,11 +73,24 @@ impl Entry {
     /// Whether the entry matches and its application is neither rejected nor given up.
     #[tactic(auto, unfolding(crate::specs::Choice::is_valid))]
     pub fn is_valid(&self) -> bool
-        ensures meaning { IsTrue result ↔ IsValid self.now }
-        ensures value { result ≡ is_valid self.now }
+        ensures fact { IsTrue result ↔ IsValid self.now }
+        ensures exact { result ≡ is_valid self.now }
     {
         self.matches() && self.state != state::INVALID && self.state != state::ABORTED
     }
+}
+
+/// The entry of a sector of the OTA data, which begin at this place of the flash.
+pub fn entry_in(flash: &[u8], otadata: u32, sector: u8) -> Entry
+    requires two { sector < 2 }
+    requires within { otadata + 8192 ≤ length flash.now }
+    ensures exact { result ≡ entry_in flash.now otadata sector }
+    ensures stored { IsStored result }
+{
+    let at = otadata as usize + 4096 * usize::from(sector);
+    let mut bytes = [0; 32];
+    bytes.copy_from_slice(&flash[at..at + 32]);
+    Entry::read(&bytes)
 }
 
 /// Entries and their bytes say the same: an entry is read where its bytes stand first, and its

@@ -12,4 +12,4 @@ pub use choice::{active, choices_are_decided, slot_of};
 pub use crc::{
     crc_is_read_from_the_remainder, crc_of, crc_of_known_sequences, division_leaves_one_remainder,
 };
-pub use entry::{BLANK, Entry, entries_are_their_bytes};
+pub use entry::{BLANK, Entry, entries_are_their_bytes, entry_in};

@@ -2,33 +2,50 @@
 
 use super::*;
 
-/// An entry of this sequence and state whose CRC matches.
-fn entry(seq: u32, state: u32) -> Entry {
+/// Numbers of states, as ESP-IDF has them in `esp_ota_img_states_t`.
+const NEW: u32 = 0;
+
+const PENDING_VERIFY: u32 = 1;
+
+const VALID: u32 = 2;
+
+const INVALID: u32 = 3;
+
+const ABORTED: u32 = 4;
+
+const UNDEFINED: u32 = 0xFFFF_FFFF;
+
+/// Sequences with the CRCs that another program computes, by Python:
+/// `zlib.crc32(bytes(byte ^ 0xFF for byte in seq.to_bytes(4, "little")))`.
+const CRCS: [(u32, u32); 6] = [
+    (0, 0xFFFF_FFFF),
+    (1, 0x4743_989A),
+    (2, 0x55F6_3774),
+    (3, 0xED4A_5011),
+    (0xFFFF_FFFE, 0x99F8_B879),
+    (0xFFFF_FFFF, 0x2144_DF1C),
+];
+
+/// An entry of these numbers, with the label of a new one.
+fn entry(seq: u32, state: u32, crc: u32) -> Entry {
     Entry {
         seq,
         label: [0xFF; 20],
         state,
-        crc: crc_of(seq),
+        crc,
     }
 }
 
-// By Python: `zlib.crc32(bytes(byte ^ 0xFF for byte in seq.to_bytes(4, "little")))`.
 #[test]
 fn a_crc_is_the_one_that_another_program_computes(rt: HostRuntime) {
-    for (seq, want) in [
-        (0, 0xFFFF_FFFF),
-        (1, 0x4743_989A),
-        (2, 0x55F6_3774),
-        (3, 0xED4A_5011),
-        (0xFFFF_FFFE, 0x99F8_B879),
-    ] {
+    for (seq, want) in CRCS {
         assert_eq!(rt; crc_of(seq), want, "at sequence {seq}");
     }
 }
 
 #[test]
 fn the_first_entry_has_its_well_known_bytes(rt: HostRuntime) {
-    let first = entry(1, state::NEW);
+    let first = entry(1, NEW, 0x4743_989A);
     let mut bytes = [0; 32];
     first.put(&mut bytes);
     let mut want = [0xFF; 32];
@@ -36,30 +53,31 @@ fn the_first_entry_has_its_well_known_bytes(rt: HostRuntime) {
     want[24..].copy_from_slice(&[0, 0, 0, 0, 0x9A, 0x98, 0x43, 0x47]);
     assert_eq!(rt; bytes, want);
     assert_eq!(rt; Entry::read(&bytes), first);
+    let mut flash = [0xFF; 0x3000];
+    flash[0x2000..0x2020].copy_from_slice(&want);
+    assert_eq!(rt; entry_in(&flash, 0x1000, 1), first, "the second sector");
+    let erased = entry(0xFFFF_FFFF, 0xFFFF_FFFF, 0xFFFF_FFFF);
+    assert_eq!(rt; entry_in(&flash, 0x1000, 0), erased, "the first sector");
+    assert_eq!(rt; Entry::default().seq, 0);
 }
 
 #[test]
 fn an_entry_is_valid_by_its_crc_its_sequence_and_its_state(rt: HostRuntime) {
     for (seq, state, crc, matches, valid) in [
-        (1, state::NEW, 0x4743_989A, true, true),
-        (1, state::PENDING_VERIFY, 0x4743_989A, true, true),
-        (1, state::VALID, 0x4743_989A, true, true),
-        (1, state::INVALID, 0x4743_989A, true, false),
-        (1, state::ABORTED, 0x4743_989A, true, false),
-        (1, state::UNDEFINED, 0x4743_989A, true, true),
+        (1, NEW, 0x4743_989A, true, true),
+        (1, PENDING_VERIFY, 0x4743_989A, true, true),
+        (1, VALID, 0x4743_989A, true, true),
+        (1, INVALID, 0x4743_989A, true, false),
+        (1, ABORTED, 0x4743_989A, true, false),
+        (1, UNDEFINED, 0x4743_989A, true, true),
         (1, 77, 0x4743_989A, true, true),
-        (1, state::VALID, 0x4743_989B, false, false),
-        (0, state::VALID, 0xFFFF_FFFF, false, false),
-        (0xFFFF_FFFE, state::VALID, 0x99F8_B879, true, true),
-        (BLANK, state::UNDEFINED, 0xFFFF_FFFF, false, false),
-        (BLANK, state::VALID, crc_of(BLANK), false, false),
+        (1, VALID, 0x4743_989B, false, false),
+        (0, VALID, 0xFFFF_FFFF, false, false),
+        (0xFFFF_FFFE, VALID, 0x99F8_B879, true, true),
+        (0xFFFF_FFFF, UNDEFINED, 0xFFFF_FFFF, false, false),
+        (0xFFFF_FFFF, VALID, 0x2144_DF1C, false, false),
     ] {
-        let entry = Entry {
-            seq,
-            label: [0xFF; 20],
-            state,
-            crc,
-        };
+        let entry = entry(seq, state, crc);
         assert_eq!(rt; entry.matches(), matches, "{seq} in state {state}");
         assert_eq!(rt; entry.is_valid(), valid, "{seq} in state {state}");
     }
@@ -67,18 +85,24 @@ fn an_entry_is_valid_by_its_crc_its_sequence_and_its_state(rt: HostRuntime) {
 
 #[test]
 fn the_valid_entry_of_the_greater_sequence_is_active(rt: HostRuntime) {
-    let valid = |seq| entry(seq, state::VALID);
-    let aborted = |seq| entry(seq, state::ABORTED);
+    let zero = entry(0, VALID, 0xFFFF_FFFF);
+    let one = entry(1, VALID, 0x4743_989A);
+    let two = entry(2, VALID, 0x55F6_3774);
+    let three = entry(3, VALID, 0xED4A_5011);
+    let erased = entry(0xFFFF_FFFF, VALID, 0x2144_DF1C);
+    let aborted_one = entry(1, ABORTED, 0x4743_989A);
+    let aborted_two = entry(2, ABORTED, 0x55F6_3774);
+    let aborted_three = entry(3, ABORTED, 0xED4A_5011);
     for (first, second, want) in [
-        (valid(2), valid(3), Some(1)),
-        (valid(3), valid(2), Some(0)),
-        (valid(2), valid(2), Some(0)),
-        (aborted(2), valid(2), Some(1)),
-        (valid(2), aborted(3), Some(0)),
-        (aborted(3), valid(2), Some(1)),
-        (valid(0), valid(1), Some(1)),
-        (valid(1), valid(BLANK), Some(0)),
-        (valid(0), aborted(1), None),
+        (two, three, Some(1)),
+        (three, two, Some(0)),
+        (two, two, Some(0)),
+        (aborted_two, two, Some(1)),
+        (two, aborted_three, Some(0)),
+        (aborted_three, two, Some(1)),
+        (zero, one, Some(1)),
+        (one, erased, Some(0)),
+        (zero, aborted_one, None),
     ] {
         assert_eq!(rt;
             active(&first, &second),
@@ -92,10 +116,14 @@ fn the_valid_entry_of_the_greater_sequence_is_active(rt: HostRuntime) {
 
 #[test]
 fn a_sequence_names_the_slots_in_turn(rt: HostRuntime) {
-    assert_eq!(rt; slot_of(1, 2), 0);
-    assert_eq!(rt; slot_of(2, 2), 1);
-    assert_eq!(rt; slot_of(3, 2), 0);
-    assert_eq!(rt; slot_of(1, 1), 0);
-    assert_eq!(rt; slot_of(16, 16), 15);
-    assert_eq!(rt; slot_of(0xFFFF_FFFE, 16), 13);
+    for (seq, slots, want) in [
+        (1, 2, 0),
+        (2, 2, 1),
+        (3, 2, 0),
+        (1, 1, 0),
+        (16, 16, 15),
+        (0xFFFF_FFFE, 16, 13),
+    ] {
+        assert_eq!(rt; slot_of(seq, slots), want, "sequence {seq} of {slots}");
+    }
 }

@@ -1,67 +1,80 @@
--- A partition table with a factory application and two update slots, the one form read so far.
-use Rattle.std.specs.Prelude.{◌≤◌, ℕ, zero, suc, ◌+◌, ◌*◌, Bool, List, [], ◌∷◌, ◌++◌, drop, None, Result, Ok, Err, ◌==◌, ◌&&◌, nat_le, if◌then◌else◌, slice_index}
+-- The text of a whole table: its rows, the row of their digest, and the end row.
+use Rattle.std.specs.Prelude.{◌≡◌, ◌≤◌, ℕ, zero, suc, ◌+◌, ◌-◌, ◌*◌, Bool, not, ◌&&◌, List, [], ◌∷◌, ◌++◌, length, take, drop, replicate, Option, Some, None, Result, Ok, Err, ◌==◌, if◌then◌else◌, slice_index}
+use Rattle.std.specs.List.{AllByRecursion}
+use Rattle.std.specs.Option.{option_or}
+use Rattle.std.specs.Str.{bytes_eq}
+use Rattle.md5.specs.Md5.{md5}
 use Rattle.partition_table.specs.declared.row.Row.{Row}
-use Rattle.partition_table.specs.declared.row.TheConstants.{ROW_SIZE, TYPE_APP, TYPE_DATA, APP_FACTORY, APP_OTA_0, APP_OTA_1, DATA_OTA, DATA_PHY, DATA_NVS}
-use Rattle.partition_table.specs.declared.table.TheConstants.{ROWS, OTADATA_SIZE, END_MARK}
-use Rattle.partition_table.specs.declared.table.TableBad.{TableBad}
-use Rattle.partition_table.specs.declared.table.TableBad.TheVariants.{Later}
-use Rattle.partition_table.specs.Row.{row_of, is_row}
-use Rattle.partition_table.specs.Layout.{Places}
+use Rattle.partition_table.specs.declared.bad.TableBad.{TableBad}
+use Rattle.partition_table.specs.declared.bad.TableBad.TheVariants.{Magic, Md5, NoEnd}
+use Rattle.partition_table.specs.Row.{IsSized, is_partition, row_of, rows_text}
+use Rattle.partition_table.specs.Rules.{FitsFlash, rows_bad}
 
--- the bytes of a table from row i on
-abbrev pub from_row : List ℕ → ℕ → List ℕ
-from_row table i = drop (ROW_SIZE * i) table
+-- the end row, as an erased flash has it
+abbrev pub end_row : List ℕ
+end_row = replicate 32 0xFF
 
--- the first n rows of a table, in order
-abbrev pub first_rows : List ℕ → ℕ → List Row
-first_rows table zero = []
-first_rows table (suc n) = first_rows table n ++ row_of (from_row table n) ∷ []
+-- the row of the digest of these bytes
+unfoldable pub digest_row : List ℕ → List ℕ
+digest_row bytes = (0xEB ∷ 0xEB ∷ replicate 14 0xFF) ++ md5 bytes
 
--- whether a row is the place of two sectors of OTA data inside a flash of this size
-unfoldable pub holds_otadata : ℕ → Row → Bool
-holds_otadata flash row = (row.size == OTADATA_SIZE) && nat_le (row.offset + row.size) flash
+-- whether bytes begin with the mark of a digest
+unfoldable pub begins_digest : List ℕ → Bool
+begins_digest bytes = (slice_index bytes 0 == 0xEB) && (slice_index bytes 1 == 0xEB)
 
--- whether bytes begin with the mark of the digest's row
-unfoldable pub is_end : List ℕ → Bool
-is_end bytes = (slice_index bytes 0 == END_MARK) && (slice_index bytes 1 == END_MARK)
+-- bytes are a table with these rows in a flash of this size
+pub record TableOf (bytes : List ℕ) (flash : ℕ) (rows : List Row) : Type 0 where
+  pub size : length bytes ≡ 0xC00
+  pub few : length rows ≤ 94
+  pub sized : AllByRecursion IsSized rows
+  pub rest : List ℕ
+  pub text : bytes ≡ rows_text rows ++ digest_row (rows_text rows) ++ end_row ++ rest
+  pub rules : FitsFlash flash rows
 
--- whether the first three rows are nvs, otadata and phy_init
-unfoldable pub has_data_rows : List ℕ → Bool
-has_data_rows table =
-    is_row TYPE_DATA DATA_NVS (from_row table 0)
-    && is_row TYPE_DATA DATA_OTA (from_row table 1)
-    && is_row TYPE_DATA DATA_PHY (from_row table 2)
+-- the text of a table with these rows, and 0xFF to its end
+unfoldable pub table_text : List Row → List ℕ
+table_text rows =
+    rows_text rows ++ digest_row (rows_text rows)
+    ++ replicate (0xC00 - (length (rows_text rows) + 32)) 0xFF
 
--- whether the next three rows are factory, ota_0 and ota_1
-unfoldable pub has_app_rows : List ℕ → Bool
-has_app_rows table =
-    is_row TYPE_APP APP_FACTORY (from_row table 3)
-    && is_row TYPE_APP APP_OTA_0 (from_row table 4)
-    && is_row TYPE_APP APP_OTA_1 (from_row table 5)
+-- the 32 bytes of this row
+abbrev pub row_at : List ℕ → ℕ → List ℕ
+row_at bytes n = take 32 (drop (32 * n) bytes)
 
--- whether these six rows stand there, the digest's row follows, and the flash holds the OTA data
-unfoldable pub is_two_slot_table : List ℕ → ℕ → Bool
-is_two_slot_table table flash =
-    has_data_rows table && has_app_rows table && is_end (from_row table ROWS)
-    && holds_otadata flash (row_of (from_row table 1))
+-- how many of the first n rows are partitions, up to the first that is none
+unfoldable pub rows_in : ℕ → List ℕ → ℕ
+rows_in zero bytes = 0
+rows_in (suc n) bytes = if is_partition bytes then rows_in n (drop 32 bytes) + 1 else 0
 
--- the rows that the bytes of a table are, in a flash of this size, or why they are no table
+-- the first n rows
+unfoldable pub first_rows : ℕ → List ℕ → List Row
+first_rows zero bytes = []
+first_rows (suc n) bytes = row_of bytes ∷ first_rows n (drop 32 bytes)
+
+-- what is wrong with the rows behind the first n, which are partitions: the digest, then the end
+unfoldable pub end_bad : List ℕ → ℕ → Option TableBad
+end_bad bytes n =
+    if n == 96 then Some NoEnd
+    else (if bytes_eq (row_at bytes n) end_row then Some (Md5 n)
+    else (if not (begins_digest (row_at bytes n)) then Some (Magic n)
+    else (if not (bytes_eq (row_at bytes n) (digest_row (take (32 * n) bytes))) then Some (Md5 n)
+    else (if n == 95 then Some NoEnd
+    else (if not (bytes_eq (row_at bytes (n + 1)) end_row) then Some (Magic (n + 1)) else None)))))
+
+-- the first rule that bytes break as a table in a flash of this size
+unfoldable pub table_bad : List ℕ → ℕ → Option TableBad
+table_bad bytes flash =
+    option_or (end_bad bytes (rows_in 96 bytes)) (rows_bad flash (first_rows (rows_in 96 bytes) bytes))
+
+-- a value, unless there is a refusal
+abbrev pub unless : {A E : Type 0} → Option E → A → Result A E
+unless None x = Ok x
+unless (Some why) x = Err why
+
+-- the rows that bytes are, in a flash of this size, or the first rule that they break
 unfoldable pub table_of : List ℕ → ℕ → Result (List Row) TableBad
-table_of table flash =
-    if is_two_slot_table table flash then Ok (first_rows table ROWS) else Err Later
+table_of bytes flash = unless (table_bad bytes flash) (first_rows (rows_in 96 bytes) bytes)
 
--- the rows are six, and the second lies in a flash of this size as two sectors of OTA data
-abbrev pub FitsFlash : ℕ → List Row → Type 0
-FitsFlash flash (nvs ∷ otadata ∷ phy ∷ factory ∷ first ∷ second ∷ []) =
-    otadata.offset + OTADATA_SIZE ≤ flash
-FitsFlash flash _ = ⊥
-
--- where a bootloader finds its parts by the rows of a table, or why it can't
-unfoldable pub layout_of : List Row → Result Places TableBad
-layout_of (nvs ∷ otadata ∷ phy ∷ factory ∷ first ∷ second ∷ []) = Ok (record {
-  otadata = otadata.offset;
-  factory = factory;
-  slots = first ∷ second ∷ [];
-  test = None;
-})
-layout_of _ = Err Later
+-- rows, or the first rule that they break in a flash of this size
+unfoldable pub ruled : ℕ → List Row → Result (List Row) TableBad
+ruled flash rows = unless (rows_bad flash rows) rows

@@ -1,155 +1,129 @@
-//! The table that stands at 0x8000 of a flash: rows of 32 bytes, and behind them that of their digest.
-//!
-//! So far one form is read, a factory application and two update slots: the rows nvs, otadata,
-//! phy_init, factory, ota_0 and ota_1, in this order. The digest is not compared.
+//! The partition table of a flash, which stands at 0x8000: rows of 32 bytes, then the row of their
+//! MD5 digest, then the end row of 0xFF.
 
-ghost use Rattle.std.specs.Prelude.{◌≡◌, ◌≤◌, ◌+◌, ◌*◌, ℕ, List, length, IfOk, IsOk, IsTrue};
-ghost use Rattle.partition_table.specs.Row.{row_of};
-ghost use Rattle.partition_table.specs.Table.{from_row, first_rows, has_data_rows, has_app_rows, is_end, holds_otadata, is_two_slot_table, table_of, layout_of, FitsFlash};
+ghost use Rattle.std.specs.Prelude.{◌≡◌, ◌≤◌, ◌<◌, ◌+◌, ◌*◌, ◌↔◌, ℕ, List, All, length, take, IfOk, Ok};
+ghost use Rattle.std.specs.List.{AllByRecursion};
+ghost use Rattle.partition_table.specs.declared.row.Row.{Row as Shown};
+ghost use Rattle.partition_table.specs.Find.{row_of_label};
+ghost use Rattle.partition_table.specs.Layout.{IsPlaced, layout_of};
+ghost use Rattle.partition_table.specs.Row.{IsSized};
+ghost use Rattle.partition_table.specs.Rules.{FitsFlash};
+ghost use Rattle.partition_table.specs.Table.{TableOf, ruled, table_of, table_text};
 
-use crate::layout::Layout;
-use crate::row::{
-    APP_FACTORY, APP_OTA_0, APP_OTA_1, DATA_NVS, DATA_OTA, DATA_PHY, ROW_SIZE, Row, TYPE_APP,
-    TYPE_DATA, begins_row,
-};
+use crate::bad::TableBad;
+use crate::find::row_of_label;
+use crate::layout::{Layout, layout_of};
+use crate::read::read_table;
+use crate::row::Row;
+use crate::rules::rows_bad;
+use crate::write::put_table;
 use arrayvec::ArrayVec;
 use std::marker::Model;
 
 /// Where the table stands in a flash.
 pub const TABLE_OFFSET: u32 = 0x8000;
-/// How many bytes a table takes at most.
+/// How many bytes a table takes.
 pub const TABLE_SIZE: usize = 0xC00;
 
-/// How many rows the form has that is read so far.
-pub const ROWS: usize = 6;
-/// How many bytes the OTA data take: two sectors.
-pub const OTADATA_SIZE: u32 = 0x2000;
-/// Each of the two bytes with which the digest's row begins.
-pub const END_MARK: u8 = 0xEB;
-
-/// Why bytes are no table.
-#[derive(Clone, Copy, Debug, PartialEq, Eq)]
-pub enum TableBad {
-    /// The table hasn't the form that is read so far.
-    Later,
-}
-
-/// The partitions of a flash.
+/// The partitions of a flash: at most 94 rows.
 #[derive(Debug, Drop, PartialEq, Eq)]
 pub struct Table {
-    rows: ArrayVec<Row, 94>,
+    pub(crate) rows: ArrayVec<Row, 94>,
 }
 
 // Clauses see the rows, in order.
 impl Model for Table {
-    ghost use Rattle.std.specs.Prelude.{◌≡◌, List, length};
+    ghost use Rattle.std.specs.Prelude.{◌≤◌, List, length};
     ghost use Rattle.partition_table.specs.declared.row.Row.{Row as Shown};
-    ghost use Rattle.partition_table.specs.declared.table.TheConstants.{ROWS};
 
     ghost Value = { List Shown };
 
     ghost view = { λ t. t.rows.items };
 
-    ghost invariant = { λ t. length t.rows.items ≡ ROWS };
+    ghost invariant = { λ t. length t.rows.items ≤ 94 };
 
     ghost inverse = { λ rows. record { rows = record { items = rows } } };
 }
 
 impl Table {
-    /// The table that bytes are, in a flash of `flash` bytes.
-    #[tactic(auto, unfolding(crate::specs::Table::table_of))]
+    /// The table that bytes are, in a flash of `flash` bytes, or the first rule that they break.
     pub fn read(bytes: &[u8; TABLE_SIZE], flash: u32) -> Result<Table, TableBad>
         ensures exact { result ≡ table_of bytes.now flash }
+        ensures ok { IfOk result (TableOf bytes.now flash) }
+        ensures only { (rows : List Shown) → TableOf bytes.now flash rows → result ≡ Ok rows }
         ensures fits { IfOk result (FitsFlash flash) }
     {
-        if has_two_slots(&bytes[..], flash) {
-            Ok(Table {
-                rows: rows_of(&bytes[..]),
-            })
-        } else {
-            Err(TableBad::Later)
+        read_table(&bytes[..], flash)
+    }
+
+    /// The table with these rows, or the first rule that they break in a flash of `flash` bytes.
+    #[tactic(auto, unfolding(crate::specs::Table::ruled))]
+    pub fn of_rows(rows: &[Row], flash: u32) -> Result<Table, TableBad>
+        requires few { length rows.now ≤ 94 }
+        ensures exact { result ≡ ruled flash rows.now }
+        ensures fits { IfOk result (FitsFlash flash) }
+    {
+        match rows_bad(rows, flash) {
+            Some(why) => Err(why),
+            None => Ok(Table {
+                rows: copy_rows(rows),
+            }),
         }
     }
 
-    /// Where a bootloader finds its parts. No table of the form that is read so far is refused.
-    #[tactic(auto, unfolding(crate::specs::Table::layout_of))]
+    /// The rows, in order.
+    pub fn rows(&self) -> &[Row]
+        ensures exact { result.now ≡ self.now }
+        ensures few { length result.now ≤ 94 }
+    {
+        self.rows.as_slice()
+    }
+
+    /// Writes the text of the table: its rows, the row of their digest, and 0xFF to the end.
+    pub fn put(&self, out: &mut [u8; TABLE_SIZE])
+        ensures bytes { out.new ≡ table_text self.now }
+        ensures table { (flash : ℕ) → FitsFlash flash self.now → TableOf out.new flash self.now }
+    {
+        put_table(self.rows(), out);
+    }
+
+    /// The number of the first row with this label, zeros behind it aside.
+    pub fn find(&self, label: &[u8]) -> Option<u8>
+        ensures exact { result ≡ row_of_label label.now self.now }
+    {
+        row_of_label(self.rows(), label)
+    }
+
+    /// Where a bootloader finds its parts, or the first reason why it can't.
     pub fn layout(&self) -> Result<Layout, TableBad>
         ensures exact { result ≡ layout_of self.now }
-        ensures found { IsOk result }
-        ensures within { (flash : ℕ) → FitsFlash flash self.now
-            → IfOk result (λ layout. layout.otadata + OTADATA_SIZE ≤ flash) }
+        ensures placed { (flash : ℕ) → FitsFlash flash self.now
+            → IfOk result (λ layout. IsPlaced layout flash) }
     {
-        let [_, otadata, _, factory, first, second] = self.rows.as_slice() else {
-            unreachable!()
-        };
-        Ok(Layout::two_slots(otadata.offset, *factory, *first, *second))
+        layout_of(self.rows())
     }
 }
 
-/// Whether bytes have the form that is read so far.
-#[tactic(auto, unfolding(crate::specs::Table::is_two_slot_table))]
-fn has_two_slots(table: &[u8], flash: u32) -> bool
-    requires { TABLE_SIZE ≤ length table.now }
-    ensures exact { result ≡ is_two_slot_table table.now flash }
-    ensures fits { IsTrue result → (row_of (from_row table.now 1)).offset + OTADATA_SIZE ≤ flash }
+/// Rows as an array of its own.
+fn copy_rows(rows: &[Row]) -> ArrayVec<Row, 94>
+    requires { length rows.now ≤ 94 }
+    ensures exact { result.items ≡ rows.now }
 {
-    let data = has_data_rows(table);
-    let app = has_app_rows(table);
-    let end = begins_end(&table[ROWS * ROW_SIZE..]);
-    let otadata = holds_otadata(&Row::read(&table[ROW_SIZE..]), flash);
-    data & app & end & otadata
-}
-
-/// Whether the first three rows are nvs, otadata and phy_init.
-#[tactic(auto, unfolding(crate::specs::Table::has_data_rows))]
-fn has_data_rows(table: &[u8]) -> bool
-    requires { TABLE_SIZE ≤ length table.now }
-    ensures { result ≡ has_data_rows table.now }
-{
-    let nvs = begins_row(table, TYPE_DATA, DATA_NVS);
-    let otadata = begins_row(&table[ROW_SIZE..], TYPE_DATA, DATA_OTA);
-    let phy = begins_row(&table[2 * ROW_SIZE..], TYPE_DATA, DATA_PHY);
-    nvs & otadata & phy
-}
-
-/// Whether the next three rows are factory, ota_0 and ota_1.
-#[tactic(auto, unfolding(crate::specs::Table::has_app_rows))]
-fn has_app_rows(table: &[u8]) -> bool
-    requires { TABLE_SIZE ≤ length table.now }
-    ensures { result ≡ has_app_rows table.now }
-{
-    let factory = begins_row(&table[3 * ROW_SIZE..], TYPE_APP, APP_FACTORY);
-    let first = begins_row(&table[4 * ROW_SIZE..], TYPE_APP, APP_OTA_0);
-    let second = begins_row(&table[5 * ROW_SIZE..], TYPE_APP, APP_OTA_1);
-    factory & first & second
-}
-
-/// Whether bytes begin with the mark of the digest's row.
-#[tactic(auto, unfolding(crate::specs::Table::is_end))]
-fn begins_end(bytes: &[u8]) -> bool
-    requires { 2 ≤ length bytes.now }
-    ensures { result ≡ is_end bytes.now }
-{
-    bytes[0] == END_MARK && bytes[1] == END_MARK
-}
-
-/// Whether a row is the place of two sectors of OTA data inside a flash of `flash` bytes.
-#[tactic(auto, unfolding(crate::specs::Table::holds_otadata))]
-fn holds_otadata(row: &Row, flash: u32) -> bool
-    ensures exact { result ≡ holds_otadata flash row.now }
-    ensures fits { IsTrue result → row.now.offset + OTADATA_SIZE ≤ flash }
-{
-    row.size == OTADATA_SIZE && u64::from(row.offset) + u64::from(row.size) <= u64::from(flash)
-}
-
-/// The rows of the form that is read so far.
-fn rows_of(table: &[u8]) -> ArrayVec<Row, 94>
-    requires { TABLE_SIZE ≤ length table.now }
-    ensures { result.items ≡ first_rows table.now ROWS }
-{
-    let mut rows = ArrayVec::new();
-    for i in 0..ROWS {
-        rows.push(Row::read(&table[ROW_SIZE * i..]));
+    let mut copy = ArrayVec::new();
+    for row in rows {
+        copy.push(*row);
     }
-    rows
+    copy
 }
+
+/// Tables and their texts say the same: what is written is read, what was read is written as far as
+/// the end row, and the answer is the rows exactly where they are those of the bytes.
+pub fn tables_are_their_texts()
+    ensures written { (flash : ℕ) (rows : List Shown) → length rows ≤ 94
+        → AllByRecursion IsSized rows → FitsFlash flash rows
+        → table_of (table_text rows) flash ≡ Ok rows }
+    ensures read { (bytes : List ℕ) (flash : ℕ) (rows : List Shown) → TableOf bytes flash rows
+        → take (32 * (length rows + 2)) (table_text rows) ≡ take (32 * (length rows + 2)) bytes }
+    ensures exact { (bytes : List ℕ) (flash : ℕ) (rows : List Shown) → length bytes ≡ 0xC00
+        → All (λ b. b < 256) bytes → (table_of bytes flash ≡ Ok rows) ↔ TableOf bytes flash rows }
+{}

@@ -6,3 +6,4 @@ pub mod Calls
 pub mod MemStore
 pub mod MemSink
 pub mod Hex
+pub mod Number

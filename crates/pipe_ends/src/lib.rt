@@ -8,6 +8,7 @@ mod fault;
 mod file;
 mod mem_sink;
 mod mem_store;
+mod number;
 mod sink;
 mod store;
 
@@ -17,6 +18,7 @@ pub use fault::{GetFault, Memory, PushFault, PutFault};
 pub use file::File;
 pub use mem_sink::MemSink;
 pub use mem_store::MemStore;
+pub use number::{read_number, value_of};
 pub use sink::Sink;
 pub use store::Store;
 

@@ -10,10 +10,13 @@ loop-preserved c =
     let step = rest_of-suc k c.loop.register c.loop.invariant.fits in
     record {
       fits = omega arith;
-      left = ap (rest_of k) c.shifted-register.ensures ∙ sym step ∙ sym (ap (λ n. rest_of n c.loop.register) next) ∙ c.loop.invariant.left;
+      left = ap (rest_of k) c.shifted-register.ensures.exact ∙ sym step ∙ sym (ap (λ n. rest_of n c.loop.register) next) ∙ c.loop.invariant.left;
     }
 
 pub returns : goal.returns
 returns c =
     let last : 32 - c.loop.counter ≡ 0 = omega arith in
-    sym (crc-register c.args.seq c.loop.register (subst (λ k. IsOnTheWay k c.args.seq c.loop.register) last c.loop.invariant))
+    record {
+      exact = sym (crc-register c.args.seq c.loop.register
+          (subst (λ k. IsOnTheWay k c.args.seq c.loop.register) last c.loop.invariant));
+    }

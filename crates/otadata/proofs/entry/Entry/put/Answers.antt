@@ -10,8 +10,8 @@ returns-clause-bytes c =
     let label : length e.label ≡ 20 = omega arith in
     entry_bytes-fields e c.args.out.now _ _ _ _ c.told-out label c.write_u32.ensures c.copy_from_slice.ensures.after c.write_u32-2.ensures c.write_u32-3.ensures
 
-pub returns-clause-entry : goal.returns-clause-entry
-returns-clause-entry c =
+pub returns-clause-same : goal.returns-clause-same
+returns-clause-same c =
     let e = c.args.self.now in
     let label : length e.label ≡ 20 = omega arith in
     let sized : IsSized e = record { seq = omega arith; label = label; state = omega arith; crc = omega arith } in
