@@ -1,0 +1,5 @@
+pub mod Plan
+pub mod Placing
+pub mod Refused
+pub mod Image
+pub mod Sizes

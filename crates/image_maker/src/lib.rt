@@ -1,0 +1,13 @@
+//! The maker of application images: the text of a plan, and the image that a plan and its parts make.
+#![tactic(auto)]
+
+mod check;
+mod image;
+mod part;
+mod place;
+mod plan;
+mod refusal;
+
+pub use image::make;
+pub use plan::Plan;
+pub use refusal::{MakeNo, PlanNo, PlanWhy};

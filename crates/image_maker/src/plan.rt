@@ -1,0 +1,87 @@
+//! A plan: what an image is made of.
+
+ghost use Rattle.std.specs.Prelude.{◌≡◌, ◌≤◌, ◌<◌, length};
+ghost use Rattle.image_maker.specs.Image.{header_of_plan};
+ghost use Rattle.image_maker.specs.Plan.{HasName, parts_of};
+
+use crate::part::PartLine;
+use image_layout::Header;
+use std::marker::Model;
+
+/// What an image is made of: the entry address, what the header says of the flash, whether a digest is appended, and
+/// the segments with the names of the files that have their data.
+#[derive(Debug, Drop)]
+pub struct Plan {
+    entry: u32,
+    mode: u8,
+    size_freq: u8,
+    hash: bool,
+    lines: Vec<PartLine>,
+}
+
+// Clauses see the plan without its memory.
+impl Model for Plan {
+    ghost use Rattle.std.specs.Prelude.{◌≤◌, vec_len};
+    ghost use Rattle.image_maker.specs.Plan.{Planned, parts_of};
+
+    ghost Value = { Planned };
+
+    ghost view = { λ p. record { entry = p.entry; mode = p.mode; size_freq = p.size_freq; hash = p.hash; parts = parts_of p.lines.items } };
+
+    ghost invariant = { λ p. vec_len p.lines ≤ 64 };
+}
+
+impl Plan {
+    /// How many segments the plan has, and with them files.
+    pub fn parts(&self) -> u32
+        ensures exact { result ≡ length self.now.parts }
+        ensures most { result ≤ 64 }
+    {
+        self.lines.len() as u32
+    }
+
+    /// The name of the file that has the data of this segment.
+    pub fn part_name(&self, i: u32) -> &str
+        requires { i < length self.now.parts }
+        ensures exact { HasName self.now.parts i result.now }
+    {
+        self.lines[i as usize].name.as_str()
+    }
+
+    /// Whether a digest is appended.
+    pub(crate) fn has_digest(&self) -> bool
+        ensures exact { result ≡ self.now.hash }
+    {
+        self.hash
+    }
+
+    /// The header of the plan's image, with so many segments.
+    #[tactic(auto, unfolding(crate::specs::Image::header_of_plan))]
+    pub(crate) fn header(&self, segments: u8) -> Header
+        ensures exact { result ≡ header_of_plan self.now segments }
+    {
+        Header {
+            magic: 0xE9,
+            segments,
+            mode: self.mode,
+            size_freq: self.size_freq,
+            entry: self.entry,
+            wp: 0xEE,
+            drive: [0; 3],
+            chip: 0,
+            old_rev: 0,
+            min_rev: 0,
+            max_rev: 0,
+            reserved: [0; 4],
+            flag: u8::from(self.hash),
+        }
+    }
+
+    /// The segments.
+    pub(crate) fn lines(&self) -> &[PartLine]
+        ensures exact { parts_of result.now ≡ self.now.parts }
+        ensures few { length result.now ≤ 64 }
+    {
+        self.lines.as_slice()
+    }
+}
