@@ -1,3 +1,4 @@
 mod JoinedLemmas
 mod RefusedLemmas
 mod PlacingLemmas
+mod WholeLemmas

@@ -175,9 +175,9 @@ fn append_parts(image: &mut Vec<u8>, lines: &[PartLine], files: &[Vec<u8>]) -> R
 /// The image of a plan and parts of which nothing is wrong.
 fn build(alloc: Global, plan: &Plan, size: Size, files: &[Vec<u8>]) -> Result<Vec<u8>, AllocError>
     requires each { length plan.now.parts ≡ length files.now }
-    requires none { make_fault plan.now.hash (joined plan.now.parts (files_of files.now)) ≡ None }
     requires count { size.count ≡ length (placed (joined plan.now.parts (files_of files.now)) 24) }
     requires end { size.end ≡ 24 + length (text_from (joined plan.now.parts (files_of files.now)) 24) }
+    requires fits { size.end ≤ 16777216 }
     ensures exact { IfOk result (λ image. image.items ≡ bytes_of plan.now (joined plan.now.parts (files_of files.now))) }
 {
     let mut image = Vec::with_capacity(alloc, size.end as usize + 48)?;

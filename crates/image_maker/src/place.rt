@@ -69,6 +69,7 @@ pub(crate) fn size_of(lines: &[PartLine], files: &[Vec<u8>]) -> Size
     requires few { length lines.now ≤ 64 }
     ensures count { result.count ≡ length (placed (joined (parts_of lines.now) (files_of files.now)) 24) }
     ensures end { result.end ≡ 24 + length (text_from (joined (parts_of lines.now) (files_of files.now)) 24) }
+    ensures short { result.end < 2 ^ 100 }
 {
     let mut size = Size { count: 0, end: 24 };
     for i in 0..lines.len() {

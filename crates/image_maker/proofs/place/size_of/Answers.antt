@@ -1,4 +1,4 @@
-use Rattle.std.proofs.Common.{◌≡◌, ◌≤◌, ◌+◌, ◌*◌, ◌^◌, ap, sym, ◌∙◌, length, arith}
+use Rattle.std.proofs.Common.{◌≡◌, ◌≤◌, ◌+◌, ◌*◌, ◌^◌, ap, sym, ◌∙◌, length, arith, get_or}
 use Rattle.image_maker.specs.Placing.{padding_of, placed, text_from}
 use Rattle.image_maker.specs.Sizes.{size_after}
 use Rattle.image_maker.proofs.JoinedLemmas.{part_at, none_left, long}
@@ -15,7 +15,7 @@ loop-i-preserved c =
     let inv = c.loop-i.invariant in
     let step = size_step c.loop-i.size c.with_part-size.result _ _ _ here
         (c.with_part-size.ensures.exact
-        ∙ ap (λ n. size_after c.loop-i.size.count c.loop-i.size.end (padding_of c.loop-i.size.end _ n) n) size) in
+        ∙ ap (λ n. size_after c.loop-i.size.count c.loop-i.size.end (padding_of c.loop-i.size.end (get_or c.args.lines.now c.loop-i.i c.index-lines-i.result).load n) n) size) in
     record {
       count = step.0 ∙ inv.count;
       end = step.1 ∙ inv.end;
@@ -31,4 +31,5 @@ returns c =
     record {
       count = omega (arith, inv.count, ap (λ ps. length (placed ps c.loop-i.size.end)) none);
       end = omega (arith, inv.end, ap (λ ps. length (text_from ps c.loop-i.size.end)) none);
+      short = omega (arith, inv.short, c.requires.few);
     }
