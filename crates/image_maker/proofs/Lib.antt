@@ -2,3 +2,5 @@ mod JoinedLemmas
 mod RefusedLemmas
 mod PlacingLemmas
 mod WholeLemmas
+mod WordLemmas
+mod ReadLemmas

@@ -1,5 +1,7 @@
+pub mod Words
 pub mod Plan
+pub mod PlanText
 pub mod Placing
+pub mod Sizes
 pub mod Refused
 pub mod Image
-pub mod Sizes

@@ -2,11 +2,13 @@
 #![tactic(auto)]
 
 mod check;
+mod draft;
 mod image;
 mod part;
 mod place;
 mod plan;
 mod refusal;
+mod words;
 
 pub use image::make;
 pub use plan::Plan;

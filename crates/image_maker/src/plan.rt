@@ -1,11 +1,15 @@
 //! A plan: what an image is made of.
 
-ghost use Rattle.std.specs.Prelude.{◌≡◌, ◌≤◌, ◌<◌, length};
+ghost use Rattle.std.specs.Prelude.{◌≡◌, ◌≤◌, ◌<◌, length, vec_len};
 ghost use Rattle.image_maker.specs.Image.{header_of_plan};
 ghost use Rattle.image_maker.specs.Plan.{HasName, parts_of};
+ghost use Rattle.image_maker.specs.PlanText.{IsPlanOrMemory, plan_of_text};
 
-use crate::part::PartLine;
+use crate::draft::read_plan;
+use crate::part::{Flash, PartLine};
+use crate::refusal::PlanNo;
 use image_layout::Header;
+use std::alloc::Global;
 use std::marker::Model;
 
 /// What an image is made of: the entry address, what the header says of the flash, whether a digest is appended, and
@@ -32,6 +36,33 @@ impl Model for Plan {
 }
 
 impl Plan {
+    /// The plan that a text means, or the first reason why it means none.
+    pub fn read(alloc: Global, text: &[u8]) -> Result<Plan, PlanNo>
+        ensures exact { IsPlanOrMemory result (plan_of_text text.now) }
+    {
+        read_plan(alloc, text)
+    }
+
+    /// A plan of these parts.
+    pub(crate) fn new(entry: u32, flash: Flash, hash: bool, lines: Vec<PartLine>) -> Plan
+        requires { vec_len lines ≤ 64 }
+        ensures exact { result ≡ record {
+            entry = entry;
+            mode = flash.mode;
+            size_freq = flash.size_freq;
+            hash = hash;
+            parts = parts_of lines.items;
+        } }
+    {
+        Plan {
+            entry,
+            mode: flash.mode,
+            size_freq: flash.size_freq,
+            hash,
+            lines,
+        }
+    }
+
     /// How many segments the plan has, and with them files.
     pub fn parts(&self) -> u32
         ensures exact { result ≡ length self.now.parts }

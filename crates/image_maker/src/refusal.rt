@@ -63,3 +63,14 @@ impl From<AllocError> for MakeNo {
         MakeNo::Memory
     }
 }
+
+impl From<AllocError> for PlanNo {
+    ghost use Rattle.std.specs.Prelude.{◌≡◌};
+    ghost use Rattle.image_maker.specs.declared.refusal.PlanNo.TheVariants.{Memory};
+
+    ghost from_gives = { λ _ e. e ≡ Memory };
+
+    fn from(_refused: AllocError) -> PlanNo {
+        PlanNo::Memory
+    }
+}
