@@ -1,12 +1,12 @@
 -- The parts of a plan by their number.
 use Rattle.std.proofs.Common.{◌≡◌, ℕ, zero, suc, ◌+◌, ◌<◌, ◌≤◌, List, [], ◌∷◌, length, drop, get_or, refl, sym, ap, ◌∙◌, arith, drop-cons}
 use Rattle.std.proofs.lemmas.List.{drop_all}
-use Rattle.std.specs.Prelude.{Vec, string_bytes}
+use Rattle.std.specs.Prelude.{Vec, map, string_bytes}
 use Rattle.std.specs.declared.alloc.Global.{Global}
 use Rattle.image_maker.specs.declared.part.PartLine.{PartLine}
 use Rattle.image_maker.specs.Image.{files_of}
 use Rattle.image_maker.specs.Placing.{Part, joined}
-use Rattle.image_maker.specs.Plan.{HasName, parts_of}
+use Rattle.image_maker.specs.Plan.{PlannedPart, parts_of}
 
 -- the parts of lines and files
 abbrev pub all_parts : List PartLine → List (Vec ℕ Global) → List Part
@@ -54,7 +54,8 @@ long file = file.ok.0
 
 -- a line has its name
 pub name_at : (i : ℕ) (lines : List PartLine) (line : PartLine) (name : List ℕ)
-    → i < length lines → line ≡ get_or lines i line → name ≡ string_bytes line.name → HasName (parts_of lines) i name
+    → i < length lines → line ≡ get_or lines i line → name ≡ string_bytes line.name
+    → name ≡ get_or (map (λ (part : PlannedPart). part.name) (parts_of lines)) i []
 name_at i [] line name below is named = absurd (omega arith)
 name_at zero (l ∷ lines) line name below is named = named ∙ ap (λ (x : PartLine). string_bytes x.name) is
 name_at (suc i) (l ∷ lines) line name below is named = name_at i lines line name (omega arith) is named

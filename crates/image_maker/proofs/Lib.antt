@@ -4,3 +4,4 @@ mod PlacingLemmas
 mod WholeLemmas
 mod WordLemmas
 mod ReadLemmas
+mod SplitLemmas

@@ -1,5 +1,5 @@
 -- A plan: what an image is made of.
-use Rattle.std.specs.Prelude.{◌≡◌, ℕ, zero, suc, Bool, List, [], ◌∷◌, map, string_bytes}
+use Rattle.std.specs.Prelude.{ℕ, Bool, List, map, string_bytes}
 use Rattle.image_maker.specs.declared.part.PartLine.{PartLine}
 
 -- a segment of a plan: its load address, and the name of the file that has its data
@@ -23,8 +23,6 @@ part_of line = record { load = line.load; name = string_bytes line.name }
 abbrev pub parts_of : List PartLine → List PlannedPart
 parts_of lines = map part_of lines
 
--- the segment of this number has its data in the file of this name
-abbrev pub HasName : List PlannedPart → ℕ → List ℕ → Type 0
-HasName [] n name = ⊥
-HasName (part ∷ parts) zero name = name ≡ part.name
-HasName (part ∷ parts) (suc n) name = HasName parts n name
+-- the names of the files of a plan, in the order of its segments
+abbrev pub part_names : Planned → List (List ℕ)
+part_names plan = map (λ part. part.name) plan.parts

@@ -1,5 +1,5 @@
 -- The lines of a text, and the words of a line.
-use Rattle.std.specs.Prelude.{ℕ, zero, suc, ◌-◌, Bool, ◌||◌, ◌==◌, List, [], ◌∷◌, ◌++◌, length, take, slice_index, if◌then◌else◌}
+use Rattle.std.specs.Prelude.{◌≡◌, ℕ, zero, suc, ◌-◌, Bool, false, ◌||◌, ◌==◌, List, [], ◌∷◌, ◌++◌, length, take, slice_index, if◌then◌else◌}
 
 -- a line without the carriage return at its end, where one stands there
 unfoldable pub without_return : List ℕ → List ℕ
@@ -38,3 +38,8 @@ abbrev pub word_in : ℕ → List (List ℕ) → List ℕ
 word_in n [] = []
 word_in zero (word ∷ words) = word
 word_in (suc n) (word ∷ words) = word_in n words
+
+-- no byte passes this test
+abbrev pub HasNo : (ℕ → Bool) → List ℕ → Type 0
+HasNo test [] = Unit {0}
+HasNo test (c ∷ cs) = (test c ≡ false) × HasNo test cs

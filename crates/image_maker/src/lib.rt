@@ -4,6 +4,7 @@
 mod check;
 mod draft;
 mod image;
+mod laws;
 mod part;
 mod place;
 mod plan;
@@ -11,5 +12,6 @@ mod refusal;
 mod words;
 
 pub use image::make;
+pub use laws::{lines_are_their_words, texts_are_their_lines};
 pub use plan::Plan;
 pub use refusal::{MakeNo, PlanNo, PlanWhy};

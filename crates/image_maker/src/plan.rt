@@ -1,8 +1,8 @@
 //! A plan: what an image is made of.
 
-ghost use Rattle.std.specs.Prelude.{◌≡◌, ◌≤◌, ◌<◌, length, vec_len};
+ghost use Rattle.std.specs.Prelude.{◌≡◌, ◌≤◌, ◌<◌, [], length, slice_index_or, vec_len};
 ghost use Rattle.image_maker.specs.Image.{header_of_plan};
-ghost use Rattle.image_maker.specs.Plan.{HasName, parts_of};
+ghost use Rattle.image_maker.specs.Plan.{part_names, parts_of};
 ghost use Rattle.image_maker.specs.PlanText.{IsPlanOrMemory, plan_of_text};
 
 use crate::draft::read_plan;
@@ -74,7 +74,7 @@ impl Plan {
     /// The name of the file that has the data of this segment.
     pub fn part_name(&self, i: u32) -> &str
         requires { i < length self.now.parts }
-        ensures exact { HasName self.now.parts i result.now }
+        ensures exact { result.now ≡ slice_index_or (part_names self.now) i [] }
     {
         self.lines[i as usize].name.as_str()
     }
