@@ -44,9 +44,10 @@ pub size_step : (size next : Size) (p : Part) (left ps : List Part) → left ≡
     → (next.count + length (placed ps next.end) ≡ size.count + length (placed left size.end))
     × (next.end + length (text_from ps next.end) ≡ size.end + length (text_from left size.end))
 size_step size next p left ps is after =
-    let told = by (padding_of size.end p.load (length p.content)) next after in
-    (told.0 ∙ ap (λ (qs : List Part). size.count + length (placed qs size.end)) (sym is),
-    told.1 ∙ ap (λ (qs : List Part). size.end + length (text_from qs size.end)) (sym is))
+    let told = by (padding_of size.end p.load (length p.content)) next after in (
+      told.0 ∙ ap (λ (qs : List Part). size.count + length (placed qs size.end)) (sym is),
+      told.1 ∙ ap (λ (qs : List Part). size.end + length (text_from qs size.end)) (sym is),
+    )
   where
     by : (o : Option ℕ) (next : Size) → next ≡ size_after size.count size.end o (length p.content)
         → (next.count + length (placed ps next.end) ≡ size.count + length (set_down o p (placed ps) size.end))

@@ -51,8 +51,8 @@ pub plan_at_end : (text last : List ℕ) (from number : ℕ) (draft : Drafted) (
 unfolding plan_of_text
 plan_at_end text last from number draft answer is lines count told =
     let here : finished (number + length (lines_from last [])) (after_lines (number + 1) draft (lines_from last []))
-        ≡ finished (number + length (lines_from (drop from text) [])) (after_lines (number + 1) draft (lines_from (drop from text) [])) =
+    ≡ finished (number + length (lines_from (drop from text) [])) (after_lines (number + 1) draft (lines_from (drop from text) [])) =
     ap (λ (l : List ℕ). finished (number + length (lines_from l [])) (after_lines (number + 1) draft (lines_from l []))) is in
     let there : finished (number + length (lines_from (drop from text) [])) (after_lines (number + 1) draft (lines_from (drop from text) []))
-        ≡ plan_of_text text = λ i. finished (count i) (lines i) in
+    ≡ plan_of_text text = λ i. finished (count i) (lines i) in
     subst (IsPlanOrMemory answer) (here ∙ there) told

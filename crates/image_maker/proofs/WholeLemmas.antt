@@ -206,17 +206,19 @@ placed_are number (p ∷ ps) at even small none short =
     by is false maps test told short rest =
         let next = at + 8 + length p.content in
         let long = length-given p (placed ps next) in
-        let page : is_mapped p.load (length p.content) ≡ true → p.load % 65536 ≡ (at + 8) % 65536 = λ mapped. absurd (cc) in
-        (is_segment at p.load p.content small.0 (omega (arith, long)) is.words
-        (well_placed p.load (length p.content) (at + 8) is.inside page),
-        rest next (omega (arith, is.words)) (omega (arith, long)))
+        let page : is_mapped p.load (length p.content) ≡ true → p.load % 65536 ≡ (at + 8) % 65536 = λ mapped. absurd (cc) in (
+          is_segment at p.load p.content small.0 (omega (arith, long)) is.words
+              (well_placed p.load (length p.content) (at + 8) is.inside page),
+          rest next (omega (arith, is.words)) (omega (arith, long)),
+        )
     by is true maps true told short rest =
         let next = at + 8 + length p.content in
         let long = length-given p (placed ps next) in
-        let none : gap at p.load ≡ 0 = grind (arith, nat_tests, told) in
-        (is_segment at p.load p.content small.0 (omega (arith, long)) is.words
-        (well_placed p.load (length p.content) (at + 8) is.inside (λ mapped. no_gap at p.load none)),
-        rest next (omega (arith, is.words)) (omega (arith, long)))
+        let none : gap at p.load ≡ 0 = grind (arith, nat_tests, told) in (
+          is_segment at p.load p.content small.0 (omega (arith, long)) is.words
+              (well_placed p.load (length p.content) (at + 8) is.inside (λ mapped. no_gap at p.load none)),
+          rest next (omega (arith, is.words)) (omega (arith, long)),
+        )
     by is true maps false told short rest =
         let n = fill (gap at p.load) in
         let head = at + 8 + n in
@@ -226,12 +228,14 @@ placed_are number (p ∷ ps) at even small none short =
         let some : gap at p.load ≢ 0 = grind (arith, nat_tests, told) in
         let filled = fill_page at p.load even (is.even maps) some in
         let zeros : n ≡ length (segment_of (Padding n)).content = sym (length-replicate {A = ℕ} n 0) in
-        let P : ℕ → Type 0 = λ m. AreSegments (at + 8 + m) (segments_of (Given p ∷ placed ps next)) in
-        (is_padding at n (omega (arith, filled)) filled.1,
-        subst P zeros
-        (is_segment head p.load p.content small.0 (omega (arith, long, more)) is.words
-        (well_placed p.load (length p.content) (head + 8) is.inside (λ mapped. filled.0)),
-        rest next (omega (arith, is.words, filled.1)) (omega (arith, long, more))))
+        let P : ℕ → Type 0 = λ m. AreSegments (at + 8 + m) (segments_of (Given p ∷ placed ps next)) in (
+          is_padding at n (omega (arith, filled)) filled.1,
+          subst P zeros (
+            is_segment head p.load p.content small.0 (omega (arith, long, more)) is.words
+                (well_placed p.load (length p.content) (head + 8) is.inside (λ mapped. filled.0)),
+            rest next (omega (arith, is.words, filled.1)) (omega (arith, long, more)),
+          ),
+        )
 
 -- without the padding they are the parts
 given-placed : (ps : List Part) (at : ℕ) → given (placed ps at) ≡ ps

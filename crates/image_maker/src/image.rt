@@ -155,7 +155,11 @@ fn append_digest(image: &mut Vec<u8>, hash: bool) -> Result<(), AllocError>
 }
 
 /// Appends the parts of a plan, and gives the checksum of their data.
-fn append_parts(image: &mut Vec<u8>, lines: &[PartLine], files: &[Vec<u8>]) -> Result<u8, AllocError>
+fn append_parts(
+    image: &mut Vec<u8>,
+    lines: &[PartLine],
+    files: &[Vec<u8>],
+) -> Result<u8, AllocError>
     requires each { length lines.now ≡ length files.now }
     requires short { length image.old.items + length (text_from (joined (parts_of lines.now) (files_of files.now)) (length image.old.items)) < 2 ^ 32 }
     ensures bytes { OnOk result (image.new.items

@@ -9,6 +9,8 @@ mod part;
 mod place;
 mod plan;
 mod refusal;
+#[cfg(test)]
+mod tests;
 mod words;
 
 pub use image::make;

@@ -47,11 +47,11 @@ impl Plan {
     pub(crate) fn new(entry: u32, flash: Flash, hash: bool, lines: Vec<PartLine>) -> Plan
         requires { vec_len lines ≤ 64 }
         ensures exact { result ≡ record {
-            entry = entry;
-            mode = flash.mode;
-            size_freq = flash.size_freq;
-            hash = hash;
-            parts = parts_of lines.items;
+          entry = entry;
+          mode = flash.mode;
+          size_freq = flash.size_freq;
+          hash = hash;
+          parts = parts_of lines.items;
         } }
     {
         Plan {

@@ -40,7 +40,11 @@ pub(crate) fn word_at(line: &[u8], number: usize) -> &[u8]
         }
         from = i + 1;
     }
-    if left == 0 { &line[from..] } else { &line[line.len()..] }
+    if left == 0 {
+        &line[from..]
+    } else {
+        &line[line.len()..]
+    }
 }
 
 /// Whether a word begins with this byte.

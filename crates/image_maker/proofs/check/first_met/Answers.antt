@@ -12,7 +12,7 @@ loop-i-init c =
     let first = c.args.first in
     let file = c.index-files-first.result in
     let here = part_at first lines files c.index-lines-first.result file c.requires.each (omega arith)
-        c.index-files-first.is in
+    c.index-files-first.is in
     let size = c.len-length.ensures ∙ long file in
     ap (λ n. first_met (get_or lines first c.index-lines-first.result).load n (first + 1) (drop (first + 1) (all_parts lines files))) size
     ∙ sym (ap (met_by_first first) here)
@@ -22,7 +22,7 @@ pub returns-then-meets : goal.returns-then-meets
 returns-then-meets c =
     let file = c.index-files-i.result in
     let here = part_at c.loop-i.i c.args.lines.now c.args.files.now c.index-lines-i.result file c.requires.each
-        c.loop-i-test.true c.index-files-i.is in
+    c.loop-i-test.true c.index-files-i.is in
     let size = c.len.ensures ∙ long file in
     record {
       exact = meeting_stops c.loop-i.i _ _ _ here _ _ _
@@ -34,7 +34,7 @@ pub loop-i-preserved : goal.loop-i-preserved
 loop-i-preserved c =
     let file = c.index-files-i.result in
     let here = part_at c.loop-i.i c.args.lines.now c.args.files.now c.index-lines-i.result file c.requires.each
-        c.loop-i-test.true c.index-files-i.is in
+    c.loop-i-test.true c.index-files-i.is in
     let size = c.len.ensures ∙ long file in
     meeting_passes c.loop-i.i _ _ _ here _ _ _
     (ap (meets _ _ _) (sym size) ∙ sym c.meets.ensures.exact ∙ c.if-meets.false) c.loop-i.invariant

@@ -9,7 +9,7 @@ pub returns-in-Some : goal.returns-in-Some
 returns-in-Some c =
     let file = c.index-files-i.result in
     let here = part_at c.loop-i.i c.args.lines.now c.args.files.now c.index-lines-i.result file c.requires.each
-        c.loop-i-test.true c.index-files-i.is in
+    c.loop-i-test.true c.index-files-i.is in
     let size = c.len.ensures ∙ long file in
     record {
       exact = part_stops c.loop-i.i _ _ _ here c.in-Some.fault _
@@ -21,7 +21,7 @@ pub loop-i-preserved : goal.loop-i-preserved
 loop-i-preserved c =
     let file = c.index-files-i.result in
     let here = part_at c.loop-i.i c.args.lines.now c.args.files.now c.index-lines-i.result file c.requires.each
-        c.loop-i-test.true c.index-files-i.is in
+    c.loop-i-test.true c.index-files-i.is in
     let size = c.len.ensures ∙ long file in
     part_passes c.loop-i.i _ _ _ here _
     (ap (part_fault c.loop-i.i _) (sym size) ∙ sym c.part_fault.ensures.exact ∙ c.in_default.is) c.loop-i.invariant

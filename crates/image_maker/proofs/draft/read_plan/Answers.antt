@@ -43,7 +43,7 @@ loop-i-preserved c =
     let text = c.args.text.now in
     let ends = line_ends c.loop-i.from c.loop-i.i text c.loop-i-test.true c.if-text-i-ne10.false in
     let taken = ap (λ (l : List ℕ). after_line (drafted c.loop-i.draft) (words_of l)) (sym c.without_return.ensures.exact)
-        ∙ c.in_ok-add.ensures.ok in
+    ∙ c.in_ok-add.ensures.ok in
     let none = line_begins c.loop-i.i text in
     let rest = drop (c.loop-i.i + 1) text in
     record {

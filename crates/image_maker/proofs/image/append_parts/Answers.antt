@@ -11,10 +11,10 @@ pub append_part-requires : goal.append_part-requires
 append_part-requires c =
     let file = c.index-files-i.result in
     let here = part_at c.loop-i.i c.args.lines.now c.args.files.now c.index-lines-i.result file c.requires.each
-        c.loop-i-test.true c.index-files-i.is in
+    c.loop-i-test.true c.index-files-i.is in
     let image = c.loop-i.image.items in
     let inside = part_within (record { load = (get_or c.args.lines.now c.loop-i.i c.index-lines-i.result).load; content = file.items })
-        (drop (c.loop-i.i + 1) (all_parts c.args.lines.now c.args.files.now)) (length image) in
+    (drop (c.loop-i.i + 1) (all_parts c.args.lines.now c.args.files.now)) (length image) in
     let left = ap (λ ps. length (text_from ps (length image))) here in
     let all = ap length c.loop-i.invariant.bytes in
     let js = all_parts c.args.lines.now c.args.files.now in
@@ -27,13 +27,13 @@ pub loop-i-preserved : goal.loop-i-preserved
 loop-i-preserved c =
     let file = c.index-files-i.result in
     let here = part_at c.loop-i.i c.args.lines.now c.args.files.now c.index-lines-i.result file c.requires.each
-        c.loop-i-test.true c.index-files-i.is in
+    c.loop-i-test.true c.index-files-i.is in
     let image = c.loop-i.image.items in
     let load = (get_or c.args.lines.now c.loop-i.i c.index-lines-i.result).load in
     let value = c.as_slice-file.ensures.value in
     let one : List ℕ → Part = λ xs. record { load = load; content = xs } in
     let grown = c.in_ok-append_part.ensures.bytes
-        ∙ ap (λ (xs : List ℕ). image ++ text_from (one xs ∷ []) (length image)) value in
+    ∙ ap (λ (xs : List ℕ). image ++ text_from (one xs ∷ []) (length image)) value in
     record {
       bytes = image_step image _ _ _ _ here grown _ c.loop-i.invariant.bytes;
       sum = sum_step image _ _ _ _ here grown c.loop-i.sum _ _

@@ -37,6 +37,6 @@ returns-clause-whole c =
     let files = files_of c.args.parts.now in
     let same = same_fault plan files _ _ c.has_digest.ensures.exact c.lines.ensures.exact in
     let small = subst (λ (qs : List PlannedPart). AreSmall (joined qs files)) c.lines.ensures.exact
-        (lines_small c.lines.result.now c.args.parts.now) in
+    (lines_small c.lines.result.now c.args.parts.now) in
     subst (IsMade plan files) (sym c.in_ok-build.ensures.exact)
     (made_is plan files small (same ∙ c.in_ok-size.ensures.none))

@@ -10,12 +10,12 @@ pub loop-i-preserved : goal.loop-i-preserved
 loop-i-preserved c =
     let file = c.index-files-i.result in
     let here = part_at c.loop-i.i c.args.lines.now c.args.files.now c.index-lines-i.result file c.requires.each
-        c.loop-i-test.true c.index-files-i.is in
+    c.loop-i-test.true c.index-files-i.is in
     let size = c.len.ensures ∙ long file in
     let inv = c.loop-i.invariant in
     let step = size_step c.loop-i.size c.with_part-size.result _ _ _ here
-        (c.with_part-size.ensures.exact
-        ∙ ap (λ n. size_after c.loop-i.size.count c.loop-i.size.end (padding_of c.loop-i.size.end (get_or c.args.lines.now c.loop-i.i c.index-lines-i.result).load n) n) size) in
+    (c.with_part-size.ensures.exact
+    ∙ ap (λ n. size_after c.loop-i.size.count c.loop-i.size.end (padding_of c.loop-i.size.end (get_or c.args.lines.now c.loop-i.i c.index-lines-i.result).load n) n) size) in
     record {
       count = step.0 ∙ inv.count;
       end = step.1 ∙ inv.end;
