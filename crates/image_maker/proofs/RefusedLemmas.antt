@@ -1,6 +1,5 @@
 -- The first fault of parts, one part after the other.
-use Rattle.std.proofs.Common.{◌≡◌, ℕ, zero, suc, ◌+◌, List, [], ◌∷◌, length, Option, Some, None, refl, sym, ap, ◌∙◌, Bool, true, false, add-one, drop, drop-cons, arith, ◌≤◌}
-use Rattle.std.specs.Option.{option_or}
+use Rattle.std.proofs.Common.{◌≡◌, ℕ, ◌+◌, List, ◌∷◌, length, Option, Some, None, refl, sym, ap, ◌∙◌, Bool, true, false, arith}
 use Rattle.image_maker.specs.declared.refusal.MakeNo.{MakeNo}
 use Rattle.image_maker.specs.declared.refusal.MakeNo.TheVariants.{NoSegments, Overlap}
 use Rattle.std.specs.Prelude.{◌==◌, ◌≢◌}

@@ -1,6 +1,6 @@
 -- The image that is made is whole.
-use Rattle.std.proofs.Common.{◌≡◌, ◌≢◌, ℕ, zero, suc, ◌+◌, ◌-◌, ◌*◌, ◌/◌, ◌%◌, ◌^◌, ◌<◌, ◌≤◌, List, [], ◌∷◌, ◌++◌, length, drop, Option, Some, None, Result, Ok, Err, Bool, true, false, refl, sym, ap, subst, ◌∙◌, arith}
-use Rattle.std.specs.Prelude.{map, replicate, not, nat_lt, nat_le, min, ◌==◌, ◌&&◌, ◌||◌, slice_index, if◌then◌else◌, Vec}
+use Rattle.std.proofs.Common.{◌≡◌, ◌≢◌, ℕ, ◌+◌, ◌-◌, ◌%◌, ◌^◌, ◌<◌, ◌≤◌, List, [], ◌∷◌, ◌++◌, length, drop, Option, Some, None, Result, Ok, Err, Bool, true, false, refl, sym, ap, subst, ◌∙◌, arith}
+use Rattle.std.specs.Prelude.{replicate, not, nat_lt, nat_le, min, ◌==◌, ◌&&◌, ◌||◌, slice_index, if◌then◌else◌, Vec}
 use Rattle.std.specs.declared.alloc.Global.{Global}
 use Rattle.std.specs.Option.{option_or}
 use Rattle.std.proofs.lemmas.Bool.Decides.{nat_tests}
@@ -12,15 +12,15 @@ use Rattle.sha2.proofs.Facts256.{length-sha256}
 use Rattle.image_layout.specs.Footer.{footer_end}
 use Rattle.image_layout.specs.Header.{header_bytes}
 use Rattle.image_layout.specs.Space.{is_data, is_code, may_load}
-use Rattle.image_layout.specs.Segment.{Segment, IsSegment, AreSegments, head_bytes, load_of, text}
-use Rattle.image_layout.specs.Whole.{Parts, Whole, IsImage, summed, xor_all}
+use Rattle.image_layout.specs.Segment.{IsSegment, AreSegments, head_bytes, text}
+use Rattle.image_layout.specs.Whole.{Parts, IsImage, summed, xor_all}
 use Rattle.image_maker.specs.declared.refusal.MakeNo.{MakeNo}
 use Rattle.image_maker.specs.declared.refusal.MakeNo.TheVariants.{OddLength, OddAddress, SpaceEnd, Overlap, NoSegments, TooManySegments, TooLong, Memory}
 use Rattle.image_maker.specs.declared.part.PartLine.{PartLine}
-use Rattle.image_maker.specs.Plan.{Planned, PlannedPart, parts_of}
-use Rattle.image_maker.specs.Placing.{Part, Placed, Padding, Given, fill, gap, given, is_mapped, joined, padding_of, placed, segment_of, segments_of, set_down, text_from, data_from}
+use Rattle.image_maker.specs.Plan.{Planned, PlannedPart}
+use Rattle.image_maker.specs.Placing.{Part, Padding, Given, fill, gap, given, is_mapped, joined, padding_of, placed, segment_of, segments_of, set_down, text_from, data_from}
 use Rattle.image_maker.specs.Refused.{leaves_space, length_of, make_fault, overlap_fault, part_fault, parts_fault, size_fault}
-use Rattle.image_maker.specs.Image.{IsImageOrMemory, IsMade, image_of, unless, body_of, bytes_of, files_of, header_of_plan, with_footer, with_digest}
+use Rattle.image_maker.specs.Image.{IsImageOrMemory, IsMade, image_of, unless, body_of, bytes_of, header_of_plan, with_footer, with_digest}
 use Rattle.image_maker.proofs.JoinedLemmas.{all_parts}
 use Rattle.image_maker.proofs.PlacingLemmas.{length-head, length-given, length-padding}
 

@@ -1,5 +1,5 @@
 -- Where the parts of a plan come to stand in an image.
-use Rattle.std.specs.Prelude.{ℕ, ◌+◌, ◌-◌, ◌%◌, Bool, not, ◌&&◌, ◌||◌, ◌==◌, List, [], ◌∷◌, ◌++◌, length, map, replicate, Option, Some, None, if◌then◌else◌}
+use Rattle.std.specs.Prelude.{ℕ, ◌+◌, ◌-◌, ◌%◌, Bool, not, ◌&&◌, ◌||◌, ◌==◌, List, [], ◌∷◌, length, map, replicate, Option, Some, None, if◌then◌else◌}
 use Rattle.image_layout.specs.Space.{is_data, is_code}
 use Rattle.image_layout.specs.Segment.{Segment, head_bytes, text, contents}
 use Rattle.image_maker.specs.Plan.{PlannedPart}

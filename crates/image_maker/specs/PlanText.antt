@@ -1,5 +1,5 @@
 -- What the text of a plan means.
-use Rattle.std.specs.Prelude.{ℕ, ◌+◌, Bool, true, false, not, ◌&&◌, ◌||◌, ◌==◌, nat_le, List, [], ◌∷◌, ◌++◌, length, map, slice_index, codes, bytes_eq, Option, Some, None, Result, Ok, Err, if◌then◌else◌, ⊤, ◌≡◌}
+use Rattle.std.specs.Prelude.{ℕ, ◌+◌, Bool, true, false, not, ◌&&◌, ◌||◌, ◌==◌, nat_le, List, [], ◌∷◌, ◌++◌, length, slice_index, codes, bytes_eq, Option, Some, None, Result, Ok, Err, if◌then◌else◌, ⊤, ◌≡◌}
 use Rattle.std.specs.Option.{is_some, unwrap_or}
 use Rattle.std.specs.Str.{is_utf8}
 use Rattle.pipe_ends.specs.Number.{number_of_text, within}

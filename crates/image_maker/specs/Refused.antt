@@ -1,11 +1,11 @@
 -- Why the parts of a plan make no image.
-use Rattle.std.specs.Prelude.{ℕ, ◌+◌, ◌-◌, ◌^◌, ◌%◌, Bool, false, not, ◌&&◌, ◌==◌, nat_le, nat_lt, min, List, [], ◌∷◌, length, Option, Some, None, if◌then◌else◌}
+use Rattle.std.specs.Prelude.{ℕ, ◌+◌, ◌-◌, ◌^◌, ◌%◌, Bool, false, not, ◌&&◌, ◌==◌, nat_lt, min, List, [], ◌∷◌, length, Option, Some, None, if◌then◌else◌}
 use Rattle.std.specs.Option.{option_or}
 use Rattle.image_layout.specs.Space.{is_data, is_code}
 use Rattle.image_layout.specs.Footer.{footer_end}
 use Rattle.image_maker.specs.declared.refusal.MakeNo.{MakeNo}
 use Rattle.image_maker.specs.declared.refusal.MakeNo.TheVariants.{NoSegments, OddLength, OddAddress, SpaceEnd, Overlap, TooManySegments, TooLong}
-use Rattle.image_maker.specs.Placing.{Part, Placed, is_mapped, placed, text_from}
+use Rattle.image_maker.specs.Placing.{Part, is_mapped, placed, text_from}
 
 -- whether data that begin in a space end behind it
 unfoldable pub leaves_space : ℕ → ℕ → Bool

@@ -1,4 +1,4 @@
-use Rattle.std.proofs.Common.{◌≡◌, ap, sym, ◌∙◌}
+use Rattle.std.proofs.Common.{ap, sym, ◌∙◌}
 use Rattle.image_maker.specs.Refused.{overlap_fault}
 use Rattle.image_maker.proofs.JoinedLemmas.{begins, none_left}
 use Rattle.image_maker.proofs.RefusedLemmas.{overlap_stops, overlap_passes}

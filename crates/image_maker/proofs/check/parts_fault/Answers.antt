@@ -1,4 +1,4 @@
-use Rattle.std.proofs.Common.{◌≡◌, ap, sym, ◌∙◌, length}
+use Rattle.std.proofs.Common.{ap, sym, ◌∙◌}
 use Rattle.image_maker.specs.Refused.{part_fault, parts_fault}
 use Rattle.image_maker.proofs.JoinedLemmas.{part_at, none_left, long}
 use Rattle.image_maker.proofs.RefusedLemmas.{part_stops, part_passes}

@@ -1,4 +1,4 @@
-use Rattle.std.proofs.Common.{◌≡◌, ◌≤◌, ap, sym, ◌∙◌, length, arith, true, refl}
+use Rattle.std.proofs.Common.{◌≡◌, ap, sym, ◌∙◌, length, arith, true, refl}
 use Rattle.std.specs.Prelude.{◌==◌}
 use Rattle.std.proofs.lemmas.Bool.Decides.{nat_tests}
 use Rattle.image_maker.specs.PlanText.{is_skipped}

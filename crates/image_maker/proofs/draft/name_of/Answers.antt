@@ -1,4 +1,4 @@
-use Rattle.std.proofs.Common.{◌≡◌, ap, sym, ◌∙◌, refl, true, false}
+use Rattle.std.proofs.Common.{◌≡◌, sym, ◌∙◌, refl, true, false}
 use Rattle.std.specs.Prelude.{Bool, ◌==◌, slice_index}
 use Rattle.std.specs.Str.{is_utf8, IsUtf8}
 use Rattle.std.proofs.lemmas.Str.{is_utf8-from_IsUtf8, IsUtf8-from_is_utf8}

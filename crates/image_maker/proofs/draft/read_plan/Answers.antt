@@ -1,9 +1,7 @@
-use Rattle.std.proofs.Common.{◌≡◌, ◌≤◌, ◌+◌, ap, sym, ◌∙◌, subst, length, drop, take, List, ℕ, Result, Ok, refl, arith, ◌-◌}
+use Rattle.std.proofs.Common.{◌+◌, ap, sym, ◌∙◌, length, drop, take, List, ℕ, arith, ◌-◌}
 use Rattle.std.proofs.lemmas.List.{take_rest}
 use Rattle.std.proofs.lemmas.Result.{err_from_is_err_and}
-use Rattle.image_maker.specs.declared.refusal.PlanNo.{PlanNo}
-use Rattle.image_maker.specs.Plan.{Planned}
-use Rattle.image_maker.specs.PlanText.{Drafted, IsPlanOrMemory, IsRefusedAt, after_line, after_lines, drafted, finished, nothing, plan_of_text}
+use Rattle.image_maker.specs.PlanText.{after_line, after_lines, drafted, plan_of_text}
 use Rattle.image_maker.specs.Words.{lines_from, lines_of, words_of}
 use Rattle.image_maker.proofs.ReadLemmas.{line_passes, line_stops, line_ends, line_begins, last_line, plan_at_end}
 use Rattle.image_maker.proofs.WordLemmas.{line_goes_on}

@@ -1,4 +1,4 @@
-use Rattle.std.proofs.Common.{◌≡◌, ◌<◌, ◌+◌, ◌++◌, ◌∷◌, [], List, ℕ, ap, sym, ◌∙◌, length, arith, get_or, drop}
+use Rattle.std.proofs.Common.{◌+◌, ◌++◌, ◌∷◌, [], List, ℕ, ap, sym, ◌∙◌, length, arith, get_or, drop}
 use Rattle.std.proofs.lemmas.List.{append-nil, length-append}
 use Rattle.image_layout.specs.Whole.{xor_all}
 use Rattle.image_maker.specs.Placing.{Part, data_from, text_from}

@@ -1,4 +1,4 @@
-use Rattle.std.proofs.Common.{◌≡◌, ap, sym, ◌∙◌, ◌++◌, List, ℕ, length}
+use Rattle.std.proofs.Common.{ap, ◌∙◌, ◌++◌, List, ℕ, length}
 use Rattle.image_layout.specs.Header.{header_bytes}
 use Rattle.image_layout.specs.Whole.{xor_all}
 use Rattle.image_maker.specs.Image.{files_of}

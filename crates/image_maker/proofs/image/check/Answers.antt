@@ -1,4 +1,4 @@
-use Rattle.std.proofs.Common.{◌≡◌, ◌≢◌, sym, ◌∙◌, length, arith}
+use Rattle.std.proofs.Common.{◌≢◌, sym, ◌∙◌, length, arith}
 use Rattle.image_maker.proofs.JoinedLemmas.{length-all_parts, all_parts}
 use Rattle.image_maker.proofs.RefusedLemmas.{no_parts, faulty_part, faulty_pair, by_size}
 use Rattle.image_maker.proofs.image.check.Goals as goal

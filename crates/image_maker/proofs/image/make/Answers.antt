@@ -1,10 +1,8 @@
-use Rattle.std.proofs.Common.{◌≡◌, ap, sym, ◌∙◌, List, length, Some, None, Ok, subst}
-use Rattle.std.specs.Prelude.{Bool}
+use Rattle.std.proofs.Common.{sym, ◌∙◌, List, subst}
 use Rattle.std.proofs.lemmas.Result.{err_from_is_err_and}
-use Rattle.image_maker.specs.Image.{IsImageOrMemory, IsMade, image_of, files_of}
-use Rattle.image_maker.specs.Placing.{Part, joined}
+use Rattle.image_maker.specs.Image.{IsMade, files_of}
+use Rattle.image_maker.specs.Placing.{joined}
 use Rattle.image_maker.specs.Plan.{PlannedPart}
-use Rattle.image_maker.specs.Refused.{make_fault}
 use Rattle.image_maker.proofs.WholeLemmas.{AreSmall, refused_is, image_is, made_is, same_fault, end_fits, lines_small}
 use Rattle.image_maker.proofs.image.make.Goals as goal
 

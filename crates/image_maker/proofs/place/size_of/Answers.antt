@@ -1,4 +1,4 @@
-use Rattle.std.proofs.Common.{◌≡◌, ◌≤◌, ◌+◌, ◌*◌, ◌^◌, ap, sym, ◌∙◌, length, arith, get_or}
+use Rattle.std.proofs.Common.{ap, ◌∙◌, length, arith, get_or}
 use Rattle.image_maker.specs.Placing.{padding_of, placed, text_from}
 use Rattle.image_maker.specs.Sizes.{size_after}
 use Rattle.image_maker.proofs.JoinedLemmas.{part_at, none_left, long}

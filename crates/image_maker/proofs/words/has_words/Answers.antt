@@ -1,6 +1,5 @@
-use Rattle.std.proofs.Common.{◌≡◌, ◌<◌, ◌≤◌, ap, subst, sym, ◌∙◌, length, arith, List, ℕ}
+use Rattle.std.proofs.Common.{ap, ◌∙◌, length, arith, List, ℕ}
 use Rattle.std.specs.Prelude.{nat_lt, ◌==◌}
-use Rattle.image_maker.specs.Words.{word_in, words_of}
 use Rattle.image_maker.proofs.WordLemmas.{has_all, lacks}
 use Rattle.image_maker.proofs.words.has_words.Goals as goal
 

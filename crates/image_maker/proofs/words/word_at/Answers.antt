@@ -1,4 +1,4 @@
-use Rattle.std.proofs.Common.{◌≡◌, ap, sym, ◌∙◌, arith}
+use Rattle.std.proofs.Common.{ap, sym, ◌∙◌, arith}
 use Rattle.image_maker.specs.Words.{word_in}
 use Rattle.image_maker.proofs.WordLemmas.{word_goes_on}
 use Rattle.image_maker.proofs.words.word_at.Goals as goal

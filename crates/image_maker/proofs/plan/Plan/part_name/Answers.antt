@@ -1,4 +1,4 @@
-use Rattle.std.proofs.Common.{◌<◌, [], ap, length, ◌∙◌, ◌≡◌, sym, get_or, arith}
+use Rattle.std.proofs.Common.{◌<◌, [], ap, length, ◌∙◌, ◌≡◌, get_or, arith}
 use Rattle.image_maker.specs.Plan.{Planned, part_names, parts_of}
 use Rattle.image_maker.proofs.JoinedLemmas.{length-parts, name_at}
 use Rattle.image_maker.proofs.plan.Plan.part_name.Goals as goal
