@@ -4,13 +4,9 @@ use Rattle.std.proofs.lemmas.List.{drop_all}
 use Rattle.std.specs.Prelude.{Vec, map, string_bytes}
 use Rattle.std.specs.declared.alloc.Global.{Global}
 use Rattle.image_maker.specs.declared.part.PartLine.{PartLine}
-use Rattle.image_maker.specs.Image.{files_of}
-use Rattle.image_maker.specs.Placing.{Part, joined}
+use Rattle.image_maker.specs.Parts.{all_parts}
+use Rattle.image_maker.specs.Placing.{Part}
 use Rattle.image_maker.specs.Plan.{PlannedPart, parts_of}
-
--- the parts of lines and files
-abbrev pub all_parts : List PartLine → List (Vec ℕ Global) → List Part
-all_parts lines files = joined (parts_of lines) (files_of files)
 
 -- there are as many as lines
 pub length-all_parts : (lines : List PartLine) (files : List (Vec ℕ Global)) → length lines ≡ length files

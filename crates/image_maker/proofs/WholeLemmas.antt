@@ -21,7 +21,7 @@ use Rattle.image_maker.specs.Plan.{Planned, PlannedPart}
 use Rattle.image_maker.specs.Placing.{Part, Padding, Given, fill, gap, given, is_mapped, joined, padding_of, placed, segment_of, segments_of, set_down, text_from, data_from}
 use Rattle.image_maker.specs.Refused.{leaves_space, length_of, make_fault, overlap_fault, part_fault, parts_fault, size_fault}
 use Rattle.image_maker.specs.Image.{IsImageOrMemory, IsMade, image_of, unless, body_of, bytes_of, header_of_plan, with_footer, with_digest}
-use Rattle.image_maker.proofs.JoinedLemmas.{all_parts}
+use Rattle.image_maker.specs.Parts.{all_parts}
 use Rattle.image_maker.proofs.PlacingLemmas.{length-head, length-given, length-padding}
 
 -- ---- the header

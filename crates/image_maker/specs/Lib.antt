@@ -2,6 +2,7 @@ pub mod Words
 pub mod Plan
 pub mod PlanText
 pub mod Placing
+pub mod Parts
 pub mod Sizes
 pub mod Refused
 pub mod Image

@@ -7,7 +7,8 @@ pub record PlannedPart : Type 0 where
   pub load : ℕ
   pub name : List ℕ
 
--- a plan: the entry address, the bytes 2 and 3 of the header, whether a digest is appended, and the segments
+-- a plan: the entry address, bytes 2 and 3 of the header, whether a digest is appended, and the
+-- segments
 pub record Planned : Type 0 where
   pub entry : ℕ
   pub mode : ℕ

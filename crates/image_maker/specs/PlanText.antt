@@ -54,7 +54,8 @@ number_up_to most word = within most (number_of_text word)
 -- the choice of a word
 unfoldable pub choice_of : List ℕ → Option Bool
 choice_of word =
-    if bytes_eq word (codes "on") then Some true else (if bytes_eq word (codes "off") then Some false else None)
+    if bytes_eq word (codes "on") then Some true
+    else (if bytes_eq word (codes "off") then Some false else None)
 
 -- whether a word is the name of a file: it does not begin with a minus sign, and is UTF-8
 unfoldable pub is_name : List ℕ → Bool
@@ -62,7 +63,8 @@ is_name word = not (slice_index word 0 == 45) && is_utf8 word
 
 -- the entry address of a line `entry N`
 unfoldable pub entry_of : List (List ℕ) → Option ℕ → Result ℕ PlanWhy
-entry_of words old = counted 2 words (need (number_up_to 0xFFFFFFFF (word_in 1 words)) Number (λ n. once old n))
+entry_of words old =
+    counted 2 words (need (number_up_to 0xFFFFFFFF (word_in 1 words)) Number (λ n. once old n))
 
 -- the bytes 2 and 3 of the header by a line `flash M S`
 unfoldable pub flash_of : List (List ℕ) → Option Flash → Result Flash PlanWhy
@@ -80,7 +82,8 @@ unfoldable pub part_in : List (List ℕ) → ℕ → Result PlannedPart PlanWhy
 part_in words count =
     counted 3 words (need (number_up_to 0xFFFFFFFF (word_in 1 words)) Number (λ load.
     if nat_le 64 count then Err TooMany
-    else (if is_name (word_in 2 words) then Ok (record { load = load; name = word_in 2 words }) else Err Name)))
+    else (if is_name (word_in 2 words) then Ok (record { load = load; name = word_in 2 words })
+    else Err Name)))
 
 -- what a value makes of a draft, or why there is none
 abbrev pub changed : {A : Type 0} → (A → Drafted) → Result A PlanWhy → Result Drafted PlanWhy
@@ -98,15 +101,19 @@ begins words key = bytes_eq (word_in 0 words) key
 -- the draft after a line of another kind than a segment
 unfoldable pub after_setting : Drafted → List (List ℕ) → Result Drafted PlanWhy
 after_setting draft words =
-    if begins words (codes "entry") then changed (λ n. record draft { entry = Some n }) (entry_of words draft.entry)
-    else (if begins words (codes "flash") then changed (λ f. record draft { flash = Some f }) (flash_of words draft.flash)
-    else (if begins words (codes "hash") then changed (λ h. record draft { hash = Some h }) (hash_of words draft.hash)
+    if begins words (codes "entry")
+    then changed (λ n. record draft { entry = Some n }) (entry_of words draft.entry)
+    else (if begins words (codes "flash")
+    then changed (λ f. record draft { flash = Some f }) (flash_of words draft.flash)
+    else (if begins words (codes "hash")
+    then changed (λ h. record draft { hash = Some h }) (hash_of words draft.hash)
     else Err Word))
 
 -- the draft after a line of a segment
 abbrev pub with_part : Drafted → List (List ℕ) → Result Drafted PlanWhy
 with_part draft words =
-    changed (λ part. record draft { parts = draft.parts ++ part ∷ [] }) (part_in words (length draft.parts))
+    changed (λ part. record draft { parts = draft.parts ++ part ∷ [] })
+    (part_in words (length draft.parts))
 
 -- the draft after a line with these words, or the first reason against it
 unfoldable pub after_line : Drafted → List (List ℕ) → Result Drafted PlanWhy
@@ -119,7 +126,8 @@ after_line draft words =
 -- ---- all lines
 
 -- what follows from the draft after the line of this number
-abbrev pub and_then : {B : Type 0} → ℕ → Result Drafted PlanWhy → (Drafted → Result B PlanNo) → Result B PlanNo
+abbrev pub and_then : {B : Type 0} → ℕ → Result Drafted PlanWhy → (Drafted → Result B PlanNo)
+    → Result B PlanNo
 and_then number (Ok draft) next = next draft
 and_then number (Err why) next = Err (Bad number why)
 

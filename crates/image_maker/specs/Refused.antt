@@ -23,18 +23,21 @@ part_fault number load len =
 -- the first reason why parts, numbered from this one on, can be no segments
 abbrev pub parts_fault : ℕ → List Part → Option MakeNo
 parts_fault number [] = None
-parts_fault number (p ∷ ps) = option_or (part_fault number p.load (length p.content)) (parts_fault (number + 1) ps)
+parts_fault number (p ∷ ps) =
+    option_or (part_fault number p.load (length p.content)) (parts_fault (number + 1) ps)
 
 -- whether two ranges of load addresses have one in common; an empty one has none
 unfoldable pub meets : ℕ → ℕ → ℕ → ℕ → Bool
 meets load len other other_len =
-    not (len == 0) && not (other_len == 0) && nat_lt load (other + other_len) && nat_lt other (load + len)
+    not (len == 0) && not (other_len == 0) && nat_lt load (other + other_len)
+    && nat_lt other (load + len)
 
 -- the first of parts, numbered from this one on, whose range of load addresses meets this one
 abbrev pub first_met : ℕ → ℕ → ℕ → List Part → Option ℕ
 first_met load len number [] = None
 first_met load len number (p ∷ ps) =
-    if meets load len p.load (length p.content) then Some number else first_met load len (number + 1) ps
+    if meets load len p.load (length p.content) then Some number
+    else first_met load len (number + 1) ps
 
 -- the first of parts, numbered from this one on, that meets the part before them
 abbrev pub met_by_first : ℕ → List Part → Option ℕ
@@ -46,7 +49,8 @@ abbrev pub overlap : ℕ → Option ℕ → Option MakeNo
 overlap a None = None
 overlap a (Some b) = Some (Overlap a b)
 
--- the first two of parts, numbered from this one on, whose ranges meet: the least first one, and then the least second one
+-- the first two of parts, numbered from this one on, whose ranges meet: the least first one, then the
+-- least second one
 abbrev pub overlap_fault : ℕ → List Part → Option MakeNo
 overlap_fault number [] = None
 overlap_fault number (p ∷ ps) =
@@ -60,7 +64,8 @@ length_of end hash = footer_end end + (if hash then 32 else 0)
 unfoldable pub size_fault : ℕ → ℕ → Bool → Option MakeNo
 size_fault count end hash =
     if nat_lt 16 count then Some (TooManySegments count)
-    else (if nat_lt 16777216 (length_of end hash) then Some (TooLong (min (length_of end hash) (2 ^ 64 - 1))) else None)
+    else (if nat_lt 16777216 (length_of end hash)
+    then Some (TooLong (min (length_of end hash) (2 ^ 64 - 1))) else None)
 
 -- the first reason why parts make no image, with a digest or without one
 unfoldable pub make_fault : Bool → List Part → Option MakeNo

@@ -3,10 +3,12 @@ use Rattle.std.specs.Prelude.{◌≡◌, ℕ, zero, suc, ◌-◌, Bool, false, �
 
 -- a line without the carriage return at its end, where one stands there
 unfoldable pub without_return : List ℕ → List ℕ
-without_return line = if slice_index line (length line - 1) == 13 then take (length line - 1) line else line
+without_return line =
+    if slice_index line (length line - 1) == 13 then take (length line - 1) line else line
 
--- the lines of a text that goes on from these bytes of the first one: each ends with a line feed, before which a carriage
--- return is no part of it; the last line may end with the text, and then keeps a carriage return
+-- the lines of a text that goes on from these bytes of the first one: each ends with a line feed, and
+-- a carriage return before that is no part of it; the last line may end with the text, and then keeps
+-- a carriage return
 abbrev pub lines_from : List ℕ → List ℕ → List (List ℕ)
 lines_from line [] = if length line == 0 then [] else line ∷ []
 lines_from line (c ∷ cs) =
@@ -27,7 +29,8 @@ ended word words = if length word == 0 then words else word ∷ words
 -- the words of a line that goes on from these bytes of the first one
 abbrev pub words_from : List ℕ → List ℕ → List (List ℕ)
 words_from word [] = ended word []
-words_from word (c ∷ cs) = if is_blank c then ended word (words_from [] cs) else words_from (word ++ c ∷ []) cs
+words_from word (c ∷ cs) =
+    if is_blank c then ended word (words_from [] cs) else words_from (word ++ c ∷ []) cs
 
 -- the words of a line
 abbrev pub words_of : List ℕ → List (List ℕ)

@@ -1,9 +1,8 @@
 //! Why the parts of a plan make no image.
 
 ghost use Rattle.std.specs.Prelude.{◌≡◌, ◌≤◌, ◌+◌, length, drop};
-ghost use Rattle.image_maker.specs.Image.{files_of};
-ghost use Rattle.image_maker.specs.Placing.{is_mapped, joined};
-ghost use Rattle.image_maker.specs.Plan.{parts_of};
+ghost use Rattle.image_maker.specs.Parts.{all_parts};
+ghost use Rattle.image_maker.specs.Placing.{is_mapped};
 ghost use Rattle.image_maker.specs.Refused.{leaves_space, meets, met_by_first, overlap_fault, part_fault, parts_fault};
 
 use crate::part::PartLine;
@@ -61,7 +60,7 @@ fn part_fault(segment: u8, load: u32, length: usize) -> Option<MakeNo>
 pub(crate) fn parts_fault(lines: &[PartLine], files: &[Vec<u8>]) -> Option<MakeNo>
     requires each { length lines.now ≡ length files.now }
     requires few { length lines.now ≤ 64 }
-    ensures exact { result ≡ parts_fault 0 (joined (parts_of lines.now) (files_of files.now)) }
+    ensures exact { result ≡ parts_fault 0 (all_parts lines.now files.now) }
 {
     for i in 0..lines.len() {
         if let Some(fault) = part_fault(i as u8, lines[i].load, files[i].len()) {
@@ -87,7 +86,7 @@ fn first_met(lines: &[PartLine], files: &[Vec<u8>], first: usize) -> Option<u8>
     requires each { length lines.now ≡ length files.now }
     requires few { length lines.now ≤ 64 }
     requires within { first + 1 ≤ length lines.now }
-    ensures exact { result ≡ met_by_first first (drop first (joined (parts_of lines.now) (files_of files.now))) }
+    ensures exact { result ≡ met_by_first first (drop first (all_parts lines.now files.now)) }
 {
     let load = lines[first].load;
     let length = files[first].len();
@@ -103,7 +102,7 @@ fn first_met(lines: &[PartLine], files: &[Vec<u8>], first: usize) -> Option<u8>
 pub(crate) fn overlap_fault(lines: &[PartLine], files: &[Vec<u8>]) -> Option<MakeNo>
     requires each { length lines.now ≡ length files.now }
     requires few { length lines.now ≤ 64 }
-    ensures exact { result ≡ overlap_fault 0 (joined (parts_of lines.now) (files_of files.now)) }
+    ensures exact { result ≡ overlap_fault 0 (all_parts lines.now files.now) }
 {
     for i in 0..lines.len() {
         if let Some(b) = first_met(lines, files, i) {

@@ -54,7 +54,8 @@ fn choice_of(word: &[u8]) -> Option<bool>
 /// The name of a file that a word is.
 #[tactic(auto, unfolding(crate::specs::PlanText::is_name))]
 fn name_of(word: &[u8]) -> Option<&str>
-    ensures exact { MatchOption result (is_name word.now ≡ false) (λ name. (is_name word.now ≡ true) × (name.now ≡ word.now)) }
+    ensures exact { MatchOption result (is_name word.now ≡ false)
+        (λ name. (is_name word.now ≡ true) × (name.now ≡ word.now)) }
 {
     if begins_with(word, b'-') {
         return None;
@@ -125,7 +126,8 @@ fn hash_of(line: &[u8], old: Option<bool>) -> Result<bool, PlanWhy>
 /// The segment of a line, where so many came before.
 #[tactic(auto, unfolding(crate::specs::PlanText::part_in))]
 fn part_in(line: &[u8], count: usize) -> Result<NamedPart<'_>, PlanWhy>
-    ensures ok { IfOk result (λ part. part_in (words_of line.now) count ≡ Ok (record { load = part.load; name = part.name.now })) }
+    ensures ok { IfOk result (λ part. part_in (words_of line.now) count
+        ≡ Ok (record { load = part.load; name = part.name.now })) }
     ensures err { IfErr result (λ why. part_in (words_of line.now) count ≡ Err why) }
     ensures room { OnOk result (count < 64) }
 {
@@ -173,8 +175,10 @@ impl Draft {
     /// Takes a line of another kind than a segment.
     #[tactic(auto, unfolding(crate::specs::PlanText::after_setting))]
     fn set(&mut self, line: &[u8]) -> Result<(), PlanWhy>
-        ensures ok { OnOk result (after_setting (drafted self.old) (words_of line.now) ≡ Ok (drafted self.new)) }
-        ensures err { IfErr result (λ why. after_setting (drafted self.old) (words_of line.now) ≡ Err why) }
+        ensures ok { OnOk result (after_setting (drafted self.old) (words_of line.now)
+            ≡ Ok (drafted self.new)) }
+        ensures err { IfErr result (λ why. after_setting (drafted self.old) (words_of line.now)
+            ≡ Err why) }
         ensures few { vec_len self.new.lines ≡ vec_len self.old.lines }
     {
         let key = word_at(line, 0);
@@ -196,8 +200,10 @@ impl Draft {
     #[tactic(auto, unfolding(crate::specs::PlanText::after_line))]
     fn add(&mut self, alloc: Global, number: u64, line: &[u8]) -> Result<(), PlanNo>
         requires { vec_len self.old.lines ≤ 64 }
-        ensures ok { OnOk result (after_line (drafted self.old) (words_of line.now) ≡ Ok (drafted self.new)) }
-        ensures err { IfErr result (IsRefusedAt number (after_line (drafted self.old) (words_of line.now))) }
+        ensures ok { OnOk result (after_line (drafted self.old) (words_of line.now)
+            ≡ Ok (drafted self.new)) }
+        ensures err { IfErr result (IsRefusedAt number
+            (after_line (drafted self.old) (words_of line.now))) }
         ensures few { vec_len self.new.lines ≤ 64 }
     {
         if is_skipped(line) {
@@ -215,8 +221,10 @@ impl Draft {
     /// Takes the line of a segment.
     fn add_part(&mut self, alloc: Global, number: u64, line: &[u8]) -> Result<(), PlanNo>
         requires { vec_len self.old.lines ≤ 64 }
-        ensures ok { OnOk result (with_part (drafted self.old) (words_of line.now) ≡ Ok (drafted self.new)) }
-        ensures err { IfErr result (IsRefusedAt number (with_part (drafted self.old) (words_of line.now))) }
+        ensures ok { OnOk result (with_part (drafted self.old) (words_of line.now)
+            ≡ Ok (drafted self.new)) }
+        ensures err { IfErr result (IsRefusedAt number
+            (with_part (drafted self.old) (words_of line.now))) }
         ensures few { vec_len self.new.lines ≤ 64 }
     {
         let part = match part_in(line, self.lines.len()) {

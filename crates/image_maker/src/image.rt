@@ -1,12 +1,12 @@
 //! The image that a plan and its parts make.
 
 ghost use Rattle.std.specs.Prelude.{◌≡◌, ◌≤◌, ◌<◌, ◌+◌, ◌*◌, ◌^◌, ◌∷◌, [], ◌++◌, length, replicate, IfOk, IfErr, OnOk, Some, None};
-ghost use Rattle.image_layout.specs.Segment.{head_bytes};
 ghost use Rattle.image_layout.specs.Whole.{xor_all};
-ghost use Rattle.image_maker.specs.Image.{IsImageOrMemory, IsMade, bytes_of, files_of, image_of, with_digest, with_footer};
-ghost use Rattle.image_maker.specs.Placing.{data_from, joined, placed, text_from};
-ghost use Rattle.image_maker.specs.Plan.{parts_of};
-ghost use Rattle.image_maker.specs.Refused.{length_of, make_fault, size_fault};
+ghost use Rattle.image_maker.specs.Image.{IsImageOrMemory, IsMade, bytes_of, image_of, with_digest, with_footer};
+ghost use Rattle.image_maker.specs.Parts.{all_parts, files_of, plan_parts};
+ghost use Rattle.image_maker.specs.Placing.{data_from, head_with, with_parts};
+ghost use Rattle.image_maker.specs.Refused.{make_fault, size_fault};
+ghost use Rattle.image_maker.specs.Sizes.{IsSizeOf};
 
 use crate::check::{overlap_fault, parts_fault};
 use crate::part::PartLine;
@@ -39,10 +39,9 @@ pub fn make(alloc: Global, plan: &Plan, parts: &[Vec<u8>]) -> Result<Vec<u8>, Ma
 fn check(hash: bool, lines: &[PartLine], files: &[Vec<u8>]) -> Result<Size, MakeNo>
     requires each { length lines.now ≡ length files.now }
     requires few { length lines.now ≤ 64 }
-    ensures none { OnOk result (make_fault hash (joined (parts_of lines.now) (files_of files.now)) ≡ None) }
-    ensures some { IfErr result (λ no. make_fault hash (joined (parts_of lines.now) (files_of files.now)) ≡ Some no) }
-    ensures count { IfOk result (λ size. size.count ≡ length (placed (joined (parts_of lines.now) (files_of files.now)) 24)) }
-    ensures end { IfOk result (λ size. size.end ≡ 24 + length (text_from (joined (parts_of lines.now) (files_of files.now)) 24)) }
+    ensures none { OnOk result (make_fault hash (all_parts lines.now files.now) ≡ None) }
+    ensures some { IfErr result (λ no. make_fault hash (all_parts lines.now files.now) ≡ Some no) }
+    ensures size { IfOk result (IsSizeOf (all_parts lines.now files.now)) }
 {
     if lines.len() == 0 {
         return Err(MakeNo::NoSegments);
@@ -78,40 +77,51 @@ fn size_fault(size: Size, hash: bool) -> Option<MakeNo>
     }
 }
 
-/// Appends a segment.
-fn append_segment(image: &mut Vec<u8>, load: u32, content: &[u8]) -> Result<(), AllocError>
-    requires { length content.now < 2 ^ 32 }
-    ensures bytes { OnOk result (image.new.items
-        ≡ image.old.items ++ head_bytes (record { load = load; length = length content.now }) ++ content.now) }
+/// The image of a plan and parts of which nothing is wrong.
+fn build(alloc: Global, plan: &Plan, size: Size, files: &[Vec<u8>]) -> Result<Vec<u8>, AllocError>
+    requires each { length plan.now.parts ≡ length files.now }
+    requires size { IsSizeOf (plan_parts plan.now files.now) size }
+    requires fits { size.end ≤ 16777216 }
+    ensures exact { IfOk result (λ image. image.items
+        ≡ bytes_of plan.now (plan_parts plan.now files.now)) }
 {
-    append_head(image, load, content.len() as u32)?;
-    image.extend_from_slice(content)
+    let mut image = Vec::with_capacity(alloc, size.end as usize + 48)?;
+    let mut header = [0; 24];
+    plan.header(size.count).put(&mut header);
+    image.extend_from_slice(&header)?;
+    let sum = append_parts(&mut image, plan.lines(), files)?;
+    append_footer(&mut image, sum)?;
+    append_digest(&mut image, plan.has_digest())?;
+    Ok(image)
 }
 
-/// Appends the head of a segment.
-fn append_head(image: &mut Vec<u8>, load: u32, length: u32) -> Result<(), AllocError>
-    ensures bytes { OnOk result (image.new.items ≡ image.old.items ++ head_bytes (record { load = load; length = length })) }
-{
-    let mut head = [0; 8];
-    SegmentHead { load, length }.put(&mut head);
-    image.extend_from_slice(&head)
-}
-
-/// Appends a padding segment with so many zeros.
-fn append_padding(image: &mut Vec<u8>, filling: u32) -> Result<(), AllocError>
+/// Appends the parts of a plan, and gives the checksum of their data.
+fn append_parts(
+    image: &mut Vec<u8>,
+    lines: &[PartLine],
+    files: &[Vec<u8>],
+) -> Result<u8, AllocError>
+    requires each { length lines.now ≡ length files.now }
+    requires short { length (with_parts image.old.items (all_parts lines.now files.now)) < 2 ^ 32 }
     ensures bytes { OnOk result (image.new.items
-        ≡ image.old.items ++ head_bytes (record { load = 0; length = filling }) ++ replicate filling 0) }
+        ≡ with_parts image.old.items (all_parts lines.now files.now)) }
+    ensures sum { IfOk result (λ sum. sum
+        ≡ xor_all 0xEF (data_from (all_parts lines.now files.now) (length image.old.items))) }
 {
-    append_head(image, 0, filling)?;
-    let end = image.len() + filling as usize;
-    image.resize(end, 0)
+    let mut sum = 0xEF;
+    for i in 0..lines.len() {
+        let file = files[i].as_slice();
+        append_part(image, lines[i].load, file)?;
+        sum = xor_bytes(sum, file);
+    }
+    Ok(sum)
 }
 
 /// Appends a part after the padding that it wants.
 fn append_part(image: &mut Vec<u8>, load: u32, content: &[u8]) -> Result<(), AllocError>
     requires { length content.now < 2 ^ 32 }
     ensures bytes { OnOk result (image.new.items
-        ≡ image.old.items ++ text_from (record { load = load; content = content.now } ∷ []) (length image.old.items)) }
+        ≡ with_parts image.old.items (record { load = load; content = content.now } ∷ [])) }
 {
     match padding_of(image.len() as u128, load, content.len()) {
         None => append_segment(image, load, content),
@@ -120,6 +130,35 @@ fn append_part(image: &mut Vec<u8>, load: u32, content: &[u8]) -> Result<(), All
             append_segment(image, load, content)
         }
     }
+}
+
+/// Appends a segment.
+fn append_segment(image: &mut Vec<u8>, load: u32, content: &[u8]) -> Result<(), AllocError>
+    requires { length content.now < 2 ^ 32 }
+    ensures bytes { OnOk result (image.new.items
+        ≡ image.old.items ++ head_with load (length content.now) ++ content.now) }
+{
+    append_head(image, load, content.len() as u32)?;
+    image.extend_from_slice(content)
+}
+
+/// Appends a padding segment with so many zeros.
+fn append_padding(image: &mut Vec<u8>, filling: u32) -> Result<(), AllocError>
+    ensures bytes { OnOk result (image.new.items
+        ≡ image.old.items ++ head_with 0 filling ++ replicate filling 0) }
+{
+    append_head(image, 0, filling)?;
+    let end = image.len() + filling as usize;
+    image.resize(end, 0)
+}
+
+/// Appends the head of a segment.
+fn append_head(image: &mut Vec<u8>, load: u32, length: u32) -> Result<(), AllocError>
+    ensures bytes { OnOk result (image.new.items ≡ image.old.items ++ head_with load length) }
+{
+    let mut head = [0; 8];
+    SegmentHead { load, length }.put(&mut head);
+    image.extend_from_slice(&head)
 }
 
 /// The exclusive or of a number with all bytes.
@@ -152,44 +191,4 @@ fn append_digest(image: &mut Vec<u8>, hash: bool) -> Result<(), AllocError>
     }
     let digest = Sha256::digest(image.as_slice());
     image.extend_from_slice(&digest)
-}
-
-/// Appends the parts of a plan, and gives the checksum of their data.
-fn append_parts(
-    image: &mut Vec<u8>,
-    lines: &[PartLine],
-    files: &[Vec<u8>],
-) -> Result<u8, AllocError>
-    requires each { length lines.now ≡ length files.now }
-    requires short { length image.old.items + length (text_from (joined (parts_of lines.now) (files_of files.now)) (length image.old.items)) < 2 ^ 32 }
-    ensures bytes { OnOk result (image.new.items
-        ≡ image.old.items ++ text_from (joined (parts_of lines.now) (files_of files.now)) (length image.old.items)) }
-    ensures sum { IfOk result (λ sum. sum
-        ≡ xor_all 0xEF (data_from (joined (parts_of lines.now) (files_of files.now)) (length image.old.items))) }
-{
-    let mut sum = 0xEF;
-    for i in 0..lines.len() {
-        let file = files[i].as_slice();
-        append_part(image, lines[i].load, file)?;
-        sum = xor_bytes(sum, file);
-    }
-    Ok(sum)
-}
-
-/// The image of a plan and parts of which nothing is wrong.
-fn build(alloc: Global, plan: &Plan, size: Size, files: &[Vec<u8>]) -> Result<Vec<u8>, AllocError>
-    requires each { length plan.now.parts ≡ length files.now }
-    requires count { size.count ≡ length (placed (joined plan.now.parts (files_of files.now)) 24) }
-    requires end { size.end ≡ 24 + length (text_from (joined plan.now.parts (files_of files.now)) 24) }
-    requires fits { size.end ≤ 16777216 }
-    ensures exact { IfOk result (λ image. image.items ≡ bytes_of plan.now (joined plan.now.parts (files_of files.now))) }
-{
-    let mut image = Vec::with_capacity(alloc, size.end as usize + 48)?;
-    let mut header = [0; 24];
-    plan.header(size.count).put(&mut header);
-    image.extend_from_slice(&header)?;
-    let sum = append_parts(&mut image, plan.lines(), files)?;
-    append_footer(&mut image, sum)?;
-    append_digest(&mut image, plan.has_digest())?;
-    Ok(image)
 }

@@ -1,4 +1,5 @@
-//! The maker of application images: the text of a plan, and the image that a plan and its parts make.
+//! The maker of application images: the text of a plan, and the image that a plan and its parts
+//! make.
 #![tactic(auto)]
 
 mod check;

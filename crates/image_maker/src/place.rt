@@ -1,15 +1,15 @@
 //! Where the parts of a plan come to stand in an image.
 
 ghost use Rattle.std.specs.Prelude.{◌≡◌, ◌≤◌, ◌<◌, ◌+◌, ◌^◌, length, IfSome};
-ghost use Rattle.image_maker.specs.Image.{files_of};
-ghost use Rattle.image_maker.specs.Placing.{gap, joined, padding_of, placed, text_from};
-ghost use Rattle.image_maker.specs.Plan.{parts_of};
-ghost use Rattle.image_maker.specs.Sizes.{size_after};
+ghost use Rattle.image_maker.specs.Parts.{all_parts};
+ghost use Rattle.image_maker.specs.Placing.{gap, padding_of};
+ghost use Rattle.image_maker.specs.Sizes.{IsSizeOf, size_after};
 
 use crate::check::is_mapped;
 use crate::part::PartLine;
 
-/// By how much data after a head at this place would stand too low for a load address, modulo 64 KiB.
+/// By how much data after a head at this place would stand too low for a load address, modulo
+/// 64 KiB.
 fn gap(at: u128, load: u32) -> u32
     requires { at < 2 ^ 127 }
     ensures exact { result ≡ gap at load }
@@ -47,7 +47,8 @@ pub(crate) struct Size {
 fn with_part(size: Size, load: u32, length: usize) -> Size
     requires few { size.count < 128 }
     requires short { size.end < 2 ^ 100 }
-    ensures exact { result ≡ size_after size.count size.end (padding_of size.end load length) length }
+    ensures exact { result
+        ≡ size_after size.count size.end (padding_of size.end load length) length }
     ensures more { result.count ≤ size.count + 2 }
     ensures longer { result.end ≤ size.end + 2 ^ 65 }
 {
@@ -67,8 +68,7 @@ fn with_part(size: Size, load: u32, length: usize) -> Size
 pub(crate) fn size_of(lines: &[PartLine], files: &[Vec<u8>]) -> Size
     requires each { length lines.now ≡ length files.now }
     requires few { length lines.now ≤ 64 }
-    ensures count { result.count ≡ length (placed (joined (parts_of lines.now) (files_of files.now)) 24) }
-    ensures end { result.end ≡ 24 + length (text_from (joined (parts_of lines.now) (files_of files.now)) 24) }
+    ensures exact { IsSizeOf (all_parts lines.now files.now) result }
     ensures short { result.end < 2 ^ 100 }
 {
     let mut size = Size { count: 0, end: 24 };

@@ -12,8 +12,8 @@ use image_layout::Header;
 use std::alloc::Global;
 use std::marker::Model;
 
-/// What an image is made of: the entry address, what the header says of the flash, whether a digest is appended, and
-/// the segments with the names of the files that have their data.
+/// What an image is made of: the entry address, what the header says of the flash, whether a digest
+/// is appended, and the segments with the names of the files that have their data.
 #[derive(Debug, Drop)]
 pub struct Plan {
     entry: u32,
@@ -30,7 +30,13 @@ impl Model for Plan {
 
     ghost Value = { Planned };
 
-    ghost view = { λ p. record { entry = p.entry; mode = p.mode; size_freq = p.size_freq; hash = p.hash; parts = parts_of p.lines.items } };
+    ghost view = { λ p. record {
+      entry = p.entry;
+      mode = p.mode;
+      size_freq = p.size_freq;
+      hash = p.hash;
+      parts = parts_of p.lines.items;
+    } };
 
     ghost invariant = { λ p. vec_len p.lines ≤ 64 };
 }

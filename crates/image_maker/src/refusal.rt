@@ -32,7 +32,8 @@ pub enum PlanNo {
     Memory,
 }
 
-/// Why a plan and its parts make no image: the first reason in this order. Segments are numbered from 0 by the plan's lines.
+/// Why a plan and its parts make no image: the first reason in this order. Segments are numbered
+/// from 0 by the plan's lines.
 #[derive(Clone, Copy, Debug, PartialEq, Eq)]
 pub enum MakeNo {
     /// The plan has no segment.

@@ -1,6 +1,7 @@
 use Rattle.std.proofs.Common.{◌+◌, ap, sym, ◌∙◌, arith, drop, get_or}
 use Rattle.image_maker.specs.Refused.{meets, first_met, met_by_first}
-use Rattle.image_maker.proofs.JoinedLemmas.{all_parts, part_at, none_left, long}
+use Rattle.image_maker.specs.Parts.{all_parts}
+use Rattle.image_maker.proofs.JoinedLemmas.{part_at, none_left, long}
 use Rattle.image_maker.proofs.RefusedLemmas.{meeting_stops, meeting_passes}
 use Rattle.image_maker.proofs.check.first_met.Goals as goal
 

@@ -2,7 +2,8 @@ use Rattle.std.proofs.Common.{◌+◌, ◌++◌, ◌∷◌, [], List, ℕ, ap, s
 use Rattle.std.proofs.lemmas.List.{append-nil, length-append}
 use Rattle.image_layout.specs.Whole.{xor_all}
 use Rattle.image_maker.specs.Placing.{Part, data_from, text_from}
-use Rattle.image_maker.proofs.JoinedLemmas.{all_parts, part_at, none_left}
+use Rattle.image_maker.specs.Parts.{all_parts}
+use Rattle.image_maker.proofs.JoinedLemmas.{part_at, none_left}
 use Rattle.image_maker.proofs.PlacingLemmas.{image_step, sum_step, part_within}
 use Rattle.image_maker.proofs.image.append_parts.Goals as goal
 

@@ -1,7 +1,7 @@
 use Rattle.std.proofs.Common.{◌≡◌, ◌<◌, ◌++◌, drop, length}
 use Rattle.image_layout.specs.Whole.{xor_all}
 use Rattle.image_maker.specs.Placing.{data_from, text_from}
-use Rattle.image_maker.proofs.JoinedLemmas.{all_parts}
+use Rattle.image_maker.specs.Parts.{all_parts}
 use Rattle.image_maker.proofs.image.append_parts.Given as goal
 
 -- the image so far, and the parts that are left, are the whole image; and so the checksum

@@ -1,7 +1,7 @@
 use Rattle.std.proofs.Common.{ap, ◌∙◌, ◌++◌, List, ℕ, length}
 use Rattle.image_layout.specs.Header.{header_bytes}
 use Rattle.image_layout.specs.Whole.{xor_all}
-use Rattle.image_maker.specs.Image.{files_of}
+use Rattle.image_maker.specs.Parts.{files_of}
 use Rattle.image_maker.specs.Placing.{joined, text_from, data_from}
 use Rattle.image_maker.specs.Plan.{PlannedPart}
 use Rattle.image_maker.proofs.WholeLemmas.{built}
@@ -23,6 +23,6 @@ returns c =
     ∙ ap (λ (qs : List PlannedPart). xor_all 0xEF (data_from (joined qs files) (length first))) c.lines.ensures.exact in
     record {
       exact = built plan ps c.args.size.count c.in_ok-sum.sum c.has_digest.result first c.append_parts.new.image.items
-          c.append_footer.new.image.items _ c.requires.count first_is second_is sum_is
+          c.append_footer.new.image.items _ c.requires.size.count first_is second_is sum_is
           c.in_ok-append_footer.ensures.bytes c.has_digest.ensures.exact c.in_ok-append_digest.ensures.bytes;
     }

@@ -1,5 +1,6 @@
 use Rattle.std.proofs.Common.{◌≢◌, sym, ◌∙◌, length, arith}
-use Rattle.image_maker.proofs.JoinedLemmas.{length-all_parts, all_parts}
+use Rattle.image_maker.specs.Parts.{all_parts}
+use Rattle.image_maker.proofs.JoinedLemmas.{length-all_parts}
 use Rattle.image_maker.proofs.RefusedLemmas.{no_parts, faulty_part, faulty_pair, by_size}
 use Rattle.image_maker.proofs.image.check.Goals as goal
 
@@ -29,8 +30,8 @@ returns-in-Some-size_fault-clause-some c =
     let long = length-all_parts c.args.lines.now c.args.files.now c.requires.each in
     let some : length (all_parts c.args.lines.now c.args.files.now) ≢ 0 = omega (arith, long, c.if-lines-eq0.false) in
     by_size c.args.hash _ some _ _ _ (sym c.parts_fault.ensures.exact ∙ c.in_default.is)
-    (sym c.overlap_fault.ensures.exact ∙ c.in_default-overlap_fault.is) c.size_of-size.ensures.count
-    c.size_of-size.ensures.end (sym c.size_fault.ensures.exact ∙ c.in-Some-size_fault.is)
+    (sym c.overlap_fault.ensures.exact ∙ c.in_default-overlap_fault.is) c.size_of-size.ensures.exact.count
+    c.size_of-size.ensures.exact.end (sym c.size_fault.ensures.exact ∙ c.in-Some-size_fault.is)
 
 -- nothing is wrong
 pub returns-clause-none : goal.returns-clause-none
@@ -38,5 +39,5 @@ returns-clause-none c =
     let long = length-all_parts c.args.lines.now c.args.files.now c.requires.each in
     let some : length (all_parts c.args.lines.now c.args.files.now) ≢ 0 = omega (arith, long, c.if-lines-eq0.false) in
     by_size c.args.hash _ some _ _ _ (sym c.parts_fault.ensures.exact ∙ c.in_default.is)
-    (sym c.overlap_fault.ensures.exact ∙ c.in_default-overlap_fault.is) c.size_of-size.ensures.count
-    c.size_of-size.ensures.end (sym c.size_fault.ensures.exact ∙ c.in_default-size_fault.is)
+    (sym c.overlap_fault.ensures.exact ∙ c.in_default-overlap_fault.is) c.size_of-size.ensures.exact.count
+    c.size_of-size.ensures.exact.end (sym c.size_fault.ensures.exact ∙ c.in_default-size_fault.is)

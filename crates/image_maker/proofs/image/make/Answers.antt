@@ -1,6 +1,7 @@
 use Rattle.std.proofs.Common.{sym, ◌∙◌, List, subst}
 use Rattle.std.proofs.lemmas.Result.{err_from_is_err_and}
-use Rattle.image_maker.specs.Image.{IsMade, files_of}
+use Rattle.image_maker.specs.Image.{IsMade}
+use Rattle.image_maker.specs.Parts.{files_of}
 use Rattle.image_maker.specs.Placing.{joined}
 use Rattle.image_maker.specs.Plan.{PlannedPart}
 use Rattle.image_maker.proofs.WholeLemmas.{AreSmall, refused_is, image_is, made_is, same_fault, end_fits, lines_small}
@@ -18,7 +19,7 @@ returns-in_err-size-clause-exact c =
 -- an image with no fault is short
 pub build-requires-clause-fits : goal.build-requires-clause-fits
 build-requires-clause-fits c =
-    end_fits c.has_digest.result _ c.in_ok-size.size.end c.in_ok-size.ensures.none c.in_ok-size.ensures.end
+    end_fits c.has_digest.result _ c.in_ok-size.size.end c.in_ok-size.ensures.none c.in_ok-size.ensures.size.end
 
 -- its bytes are those that are stated
 pub returns-clause-exact : goal.returns-clause-exact

@@ -29,7 +29,9 @@ returns c =
     let none = none_left c.loop-i.i c.args.lines.now c.args.files.now c.requires.each c.loop-i-test.false in
     let inv = c.loop-i.invariant in
     record {
-      count = omega (arith, inv.count, ap (λ ps. length (placed ps c.loop-i.size.end)) none);
-      end = omega (arith, inv.end, ap (λ ps. length (text_from ps c.loop-i.size.end)) none);
+      exact = record {
+        count = omega (arith, inv.count, ap (λ ps. length (placed ps c.loop-i.size.end)) none);
+        end = omega (arith, inv.end, ap (λ ps. length (text_from ps c.loop-i.size.end)) none);
+      };
       short = omega (arith, inv.short, c.requires.few);
     }

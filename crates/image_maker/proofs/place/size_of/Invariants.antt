@@ -1,6 +1,6 @@
 use Rattle.std.proofs.Common.{◌≡◌, ◌≤◌, ◌+◌, ◌*◌, ◌^◌, drop, length}
 use Rattle.image_maker.specs.Placing.{placed, text_from}
-use Rattle.image_maker.proofs.JoinedLemmas.{all_parts}
+use Rattle.image_maker.specs.Parts.{all_parts}
 use Rattle.image_maker.proofs.place.size_of.Given as goal
 
 -- the size so far, and what is left, are the whole size
