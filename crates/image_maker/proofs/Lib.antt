@@ -1,0 +1,7 @@
+mod JoinedLemmas
+mod RefusedLemmas
+mod PlacingLemmas
+mod WholeLemmas
+mod WordLemmas
+mod ReadLemmas
+mod SplitLemmas

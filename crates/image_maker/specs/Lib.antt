@@ -1,0 +1,8 @@
+pub mod Words
+pub mod Plan
+pub mod PlanText
+pub mod Placing
+pub mod Parts
+pub mod Sizes
+pub mod Refused
+pub mod Image
