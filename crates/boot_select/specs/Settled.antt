@@ -1,5 +1,5 @@
 -- When an update may begin: no entry waits, and the application that is named is the one that starts.
-use Rattle.std.specs.Prelude.{◌≡◌, ◌≢◌, ℕ, zero, suc, ◌==◌, Bool, true, false, Option, Some, None, Result, Ok, Err, if◌then◌else◌}
+use Rattle.std.specs.Prelude.{◌⊎◌, ◌≡◌, ◌≢◌, ℕ, zero, suc, ◌==◌, Bool, true, false, Option, Some, None, Result, Ok, Err, if◌then◌else◌}
 use Rattle.otadata.specs.declared.entry.Entry.{Entry}
 use Rattle.otadata.specs.Choice.{active_of}
 use Rattle.partition_table.specs.declared.app.App.{App}
@@ -75,3 +75,24 @@ pub record Settles (layout : Places) (whole : App → Bool) (e0 e1 : Entry) (app
   pub none_waits : NoneWaits e0 e1
   pub named : named_of layout e0 e1 ≡ app
   pub started : started_from layout whole (named_of layout e0 e1) ≡ Some app
+
+-- no entry waits, and no application is whole
+pub record NoneStarts (layout : Places) (whole : App → Bool) (e0 e1 : Entry) : Type 0 where
+  pub none_waits : NoneWaits e0 e1
+  pub none_started : started_from layout whole (named_of layout e0 e1) ≡ None
+
+-- no entry waits, the entries name one application, and another one is started
+pub record FallsBack (layout : Places) (whole : App → Bool) (e0 e1 : Entry) (named started : App) : Type 0 where
+  pub none_waits : NoneWaits e0 e1
+  pub named_is : named_of layout e0 e1 ≡ named
+  pub started_is : started_from layout whole (named_of layout e0 e1) ≡ Some started
+  pub differs : started ≢ named
+
+-- the entry in this sector waits in this state: the first one or else the second has the state
+-- PENDING_VERIFY, or else it is the active one, and new
+abbrev pub Waits : Entry → Entry → ℕ → ℕ → Type 0
+Waits e0 e1 sector state =
+    ((sector ≡ 0) × (state ≡ 1) × (e0.state ≡ 1))
+    ⊎ (((sector ≡ 1) × (state ≡ 1) × (e0.state ≢ 1) × (e1.state ≡ 1))
+    ⊎ ((state ≡ 0) × (e0.state ≢ 1) × (e1.state ≢ 1) × (active_of e0 e1 ≡ Some sector)
+    × ((sectors e0 e1 sector).state ≡ 0)))

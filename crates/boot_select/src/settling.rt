@@ -1,12 +1,14 @@
 //! Whether an update may begin: no entry waits for its application, and the application that the OTA
 //! data name is the one that is started.
 
-ghost use Rattle.std.specs.Prelude.{◌≡◌, ◌↔◌, IsTrue, Ok, Err, Some, None};
+ghost use Rattle.std.specs.Prelude.{◌≡◌, ◌↔◌, ℕ, true, Ok, Err, Some, None};
+ghost use Rattle.otadata.specs.declared.entry.Entry.{Entry};
 ghost use Rattle.partition_table.specs.declared.app.App.{App};
 ghost use Rattle.otadata.specs.Choice.{active_of};
 ghost use Rattle.boot_select.specs.Choice.{named_of};
 ghost use Rattle.boot_select.specs.Candidates.{is_whole, started_from};
-ghost use Rattle.boot_select.specs.Settled.{NoneWaits, Settles, is_same, settled_of, started_as, waiting_in, waiting_new, waiting_of};
+ghost use Rattle.boot_select.specs.Settled.{FallsBack, NoneStarts, NoneWaits, Settles, Waits, is_same, settled_by, settled_of, started_as, waiting_in, waiting_new, waiting_of};
+ghost use Rattle.boot_select.specs.declared.settling.Unsettled.TheVariants.{Fallback, NoApp, Waiting};
 
 use crate::candidates::choose;
 use crate::choice::named;
@@ -27,13 +29,41 @@ pub enum Unsettled {
 /// The application that runs, where no entry waits and the one that is named is whole; `ok` has the
 /// truth values of `choose`.
 #[tactic(auto, unfolding(crate::specs::Settled::settled_of))]
-pub fn settled(layout: &Layout, e0: &Entry, e1: &Entry, ok: &[bool; 18]) -> Result<App, Unsettled>
+pub fn settled(
+    layout: &Layout,
+    e0: &Entry,
+    e1: &Entry,
+    ok: &[bool; 18],
+) -> Result<App, Unsettled>
     ensures exact { result ≡ settled_of layout.now (is_whole ok.now) e0.now e1.now }
+    ensures ok { (app : App) → (result ≡ Ok app)
+        ↔ Settles layout.now (is_whole ok.now) e0.now e1.now app }
+    ensures waiting { (sector state : ℕ) → (result ≡ Err (Waiting sector state))
+        ↔ Waits e0.now e1.now sector state }
+    ensures no_app { (result ≡ Err NoApp)
+        ↔ NoneStarts layout.now (is_whole ok.now) e0.now e1.now }
+    ensures fallback { (named started : App) → (result ≡ Err (Fallback named started))
+        ↔ FallsBack layout.now (is_whole ok.now) e0.now e1.now named started }
 {
-    if let Some(why) = waiting(e0, e1) {
-        return Err(why);
+    settled_by(
+        waiting(e0, e1),
+        named(layout, e0, e1),
+        choose(layout, e0, e1, ok),
+    )
+}
+
+/// The application that runs, by the entry that waits, what is named and what is started.
+fn settled_by(
+    waiting: Option<Unsettled>,
+    named: App,
+    started: Option<App>,
+) -> Result<App, Unsettled>
+    ensures exact { result ≡ settled_by waiting named started }
+{
+    match waiting {
+        Some(why) => Err(why),
+        None => started_as(named, started),
     }
-    started_as(named(layout, e0, e1), choose(layout, e0, e1, ok))
 }
 
 /// The application that is named, where it is the one that is started.
@@ -94,3 +124,9 @@ fn waiting_in(sector: u8, entry: &Entry, state: u32) -> Option<Unsettled>
         state,
     })
 }
+
+/// The tests that compute mean what the facts say.
+pub fn waits_are_decided()
+    ensures none { (e0 e1 : Entry) → (waiting_of e0 e1 ≡ None) ↔ NoneWaits e0 e1 }
+    ensures same { (a b : App) → (is_same a b ≡ true) ↔ (a ≡ b) }
+{}
