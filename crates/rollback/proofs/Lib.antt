@@ -1,0 +1,2 @@
+-- Crates above cite these lemmas.
+pub mod BootLemmas
