@@ -1,5 +1,5 @@
 -- What it says that an update may begin, in facts.
-use Rattle.std.proofs.Common.{IfSome, ◌==◌, ◌≡◌, ◌≢◌, ◌↔◌, ◌<◌, ℕ, zero, suc, Bool, true, false, Option, Some, None, Result, Ok, Err, IsTrue, refl, sym, ap, ◌∙◌, ◌⊎◌, inl, inr, subst, arith, rules}
+use Rattle.std.proofs.Common.{IfSome, ◌==◌, ◌≡◌, ◌≢◌, ◌↔◌, ◌<◌, ℕ, zero, suc, Bool, true, false, Option, Some, None, Ok, Err, refl, sym, ap, ◌∙◌, ◌⊎◌, inl, inr, subst, arith}
 use Rattle.std.proofs.lemmas.Bool.{cases_Bool}
 use Rattle.std.proofs.lemmas.Bool.Decides.{nat_tests}
 use Rattle.otadata.specs.declared.entry.Entry.{Entry}
@@ -57,11 +57,12 @@ none-waits e0 e1 =
     let inner = or_else-none (waiting_in 1 e1 1) new in
     let first = waiting_in-none 0 e0 1 in
     let second = waiting_in-none 1 e1 1 in
-    let active = new-none e0 e1 (active_of e0 e1) in
-    (λ none. let both = outer.0 none in
-    let rest = inner.0 both.1 in
-    record { first = first.0 both.0; second = second.0 rest.0; active = active.0 rest.1 },
-     λ fact. outer.1 (first.1 fact.first, inner.1 (second.1 fact.second, active.1 fact.active)))
+    let active = new-none e0 e1 (active_of e0 e1) in (
+      λ none. let both = outer.0 none in
+          let rest = inner.0 both.1 in
+          record { first = first.0 both.0; second = second.0 rest.0; active = active.0 rest.1 },
+      λ fact. outer.1 (first.1 fact.first, inner.1 (second.1 fact.second, active.1 fact.active)),
+    )
 
 -- ---- what settled answers
 
@@ -75,10 +76,13 @@ started_as-ok named started app = at (cases_Bool (is_same started named))
         let equal : started ≡ named = (is_same-true started named).0 same in
         rw same (λ ok. let is : named ≡ app = cc in (is, equal ∙ is), λ both. ap Ok both.0)
     at (inr differs) =
-        rw differs (λ ok. absurd cc, λ both.
-        let equal : started ≡ named = both.1 ∙ sym both.0 in
-        let same = (is_same-true started named).1 equal in
-        absurd cc)
+        rw differs (
+          λ ok. absurd cc,
+          λ both.
+              let equal : started ≡ named = both.1 ∙ sym both.0 in
+              let same = (is_same-true started named).1 equal in
+              absurd cc,
+        )
 
 -- that another application starts than the one that is named
 started_as-other : (named started n s : App)
@@ -91,10 +95,12 @@ started_as-other named started n s = at (cases_Bool (is_same started named))
         let equal : started ≡ named = (is_same-true started named).0 same in
         rw same (λ ok. absurd cc, λ parts. absurd (parts.2 (sym parts.1 ∙ equal ∙ parts.0)))
     at (inr differs) =
-        rw differs (λ err. let one : named ≡ n = cc in
-        let other : started ≡ s = cc in
-        (one, other, λ equal. let same = (is_same-true started named).1 (other ∙ equal ∙ sym one) in absurd cc),
-         λ parts. let one = parts.0 in let other = parts.1 in cc)
+        rw differs (
+          λ err. let one : named ≡ n = cc in
+              let other : started ≡ s = cc in
+              (one, other, λ equal. let same = (is_same-true started named).1 (other ∙ equal ∙ sym one) in absurd cc),
+          λ parts. let one = parts.0 in let other = parts.1 in cc,
+        )
 
 -- it is no other answer than that no application starts
 started_as-none : (named : App) (started : Option App) → (started_as named started ≡ Err NoApp) ↔ (started ≡ None)
@@ -131,9 +137,10 @@ by-other : (w : Option Unsettled) (named : App) (started : Option App) (n s : Ap
 by-other (Some why) named started n s other = (λ err. absurd (other cc), λ parts. absurd (let none = parts.0 in cc))
 by-other None named None n s other = (λ err. absurd cc, λ parts. absurd (let none = parts.2 in cc))
 by-other None named (Some started) n s other =
-    let is = started_as-other named started n s in
-    (λ err. (refl, (is.0 err).0, ap Some (is.0 err).1, (is.0 err).2),
-     λ parts. let some = parts.2 in is.1 (parts.1, cc, parts.3))
+    let is = started_as-other named started n s in (
+      λ err. (refl, (is.0 err).0, ap Some (is.0 err).1, (is.0 err).2),
+      λ parts. let some = parts.2 in is.1 (parts.1, cc, parts.3),
+    )
 
 -- that an entry waits
 by-waiting : (w : Option Unsettled) (named : App) (started : Option App) (sector state : ℕ)
@@ -177,26 +184,28 @@ new-some : (e0 e1 : Entry) (active : Option ℕ) (sector state : ℕ) → ((y : 
 new-some e0 e1 None sector state two = (λ some. absurd cc, λ parts. absurd (let none = parts.1 in cc))
 new-some e0 e1 (Some zero) sector state two =
     let test = waiting_in-some 0 e0 0 (Waiting sector state) in
-    let P : ℕ → Type 0 = λ y. (sectors e0 e1 y).state ≡ 0 in
-    (λ some. let why = (test.0 some).1 in
-    let is : 0 ≡ sector = cc in
-    let last : state ≡ 0 = cc in
-    (last, ap Some is, subst P is (test.0 some).0),
-     λ parts. let is = parts.1 in
-    let same : sector ≡ 0 = cc in
-    let last = parts.0 in
-    test.1 (subst P same parts.2, cc))
+    let P : ℕ → Type 0 = λ y. (sectors e0 e1 y).state ≡ 0 in (
+      λ some. let why = (test.0 some).1 in
+          let is : 0 ≡ sector = cc in
+          let last : state ≡ 0 = cc in
+          (last, ap Some is, subst P is (test.0 some).0),
+      λ parts. let is = parts.1 in
+          let same : sector ≡ 0 = cc in
+          let last = parts.0 in
+          test.1 (subst P same parts.2, cc),
+    )
 new-some e0 e1 (Some (suc zero)) sector state two =
     let test = waiting_in-some 1 e1 0 (Waiting sector state) in
-    let P : ℕ → Type 0 = λ y. (sectors e0 e1 y).state ≡ 0 in
-    (λ some. let why = (test.0 some).1 in
-    let is : 1 ≡ sector = cc in
-    let last : state ≡ 0 = cc in
-    (last, ap Some is, subst P is (test.0 some).0),
-     λ parts. let is = parts.1 in
-    let same : sector ≡ 1 = cc in
-    let last = parts.0 in
-    test.1 (subst P same parts.2, cc))
+    let P : ℕ → Type 0 = λ y. (sectors e0 e1 y).state ≡ 0 in (
+      λ some. let why = (test.0 some).1 in
+          let is : 1 ≡ sector = cc in
+          let last : state ≡ 0 = cc in
+          (last, ap Some is, subst P is (test.0 some).0),
+      λ parts. let is = parts.1 in
+          let same : sector ≡ 1 = cc in
+          let last = parts.0 in
+          test.1 (subst P same parts.2, cc),
+    )
 new-some e0 e1 (Some (suc (suc n))) sector state two = let less = two (suc (suc n)) refl in absurd (omega arith)
 
 -- the active entry is one of the two
@@ -216,24 +225,25 @@ waits-some e0 e1 sector state =
     let second = waiting_in-some 1 e1 1 why in
     let active = new-some e0 e1 (active_of e0 e1) sector state (two_entries e0 e1) in
     let no_first = waiting_in-none 0 e0 1 in
-    let no_second = waiting_in-none 1 e1 1 in
-    (λ some. elim (outer.0 some) [
-      | inl one ↦ let is = (first.0 one).1 in inl (cc, cc, (first.0 one).0)
-      | inr rest ↦ elim (inner.0 rest.1) [
-        | inl two ↦ let is = (second.0 two).1 in inr (inl (cc, cc, no_first.0 rest.0, (second.0 two).0))
-        | inr three ↦ let last = active.0 three.1 in
-        inr (inr (last.0, no_first.0 rest.0, no_second.0 three.0, last.1, last.2))
-      ]
-    ],
-     λ waits. elim waits [
-      | inl one ↦ let p = one.0 in let q = one.1 in outer.1 (inl (first.1 (one.2, cc)))
-      | inr rest ↦ elim rest [
-        | inl two ↦ let p = two.0 in let q = two.1 in
-        outer.1 (inr (no_first.1 two.2, inner.1 (inl (second.1 (two.3, cc)))))
-        | inr three ↦
-        outer.1 (inr (no_first.1 three.1, inner.1 (inr (no_second.1 three.2, active.1 (three.0, three.3, three.4)))))
-      ]
-    ])
+    let no_second = waiting_in-none 1 e1 1 in (
+      λ some. elim (outer.0 some) [
+        | inl one ↦ let is = (first.0 one).1 in inl (cc, cc, (first.0 one).0)
+        | inr rest ↦ elim (inner.0 rest.1) [
+          | inl two ↦ let is = (second.0 two).1 in inr (inl (cc, cc, no_first.0 rest.0, (second.0 two).0))
+          | inr three ↦ let last = active.0 three.1 in
+              inr (inr (last.0, no_first.0 rest.0, no_second.0 three.0, last.1, last.2))
+        ]
+      ],
+      λ waits. elim waits [
+        | inl one ↦ let p = one.0 in let q = one.1 in outer.1 (inl (first.1 (one.2, cc)))
+        | inr rest ↦ elim rest [
+          | inl two ↦ let p = two.0 in let q = two.1 in
+              outer.1 (inr (no_first.1 two.2, inner.1 (inl (second.1 (two.3, cc)))))
+          | inr three ↦
+              outer.1 (inr (no_first.1 three.1, inner.1 (inr (no_second.1 three.2, active.1 (three.0, three.3, three.4)))))
+        ]
+      ],
+    )
 
 -- it is nothing else than an entry that waits
 waits-only : (e0 e1 : Entry) (why : Unsettled) → waiting_of e0 e1 ≡ Some why
@@ -268,9 +278,10 @@ unfolding settled_of
 settled-ok layout whole e0 e1 app =
     let named = named_of layout e0 e1 in
     let by = by-ok (waiting_of e0 e1) named (started_from layout whole named) app in
-    let quiet = none-waits e0 e1 in
-    (λ ok. record { none_waits = quiet.0 (by.0 ok).0; named = (by.0 ok).1; started = (by.0 ok).2 },
-     λ fact. by.1 (quiet.1 fact.none_waits, fact.named, fact.started))
+    let quiet = none-waits e0 e1 in (
+      λ ok. record { none_waits = quiet.0 (by.0 ok).0; named = (by.0 ok).1; started = (by.0 ok).2 },
+      λ fact. by.1 (quiet.1 fact.none_waits, fact.named, fact.started),
+    )
 
 -- that none does
 pub settled-none : (layout : Places) (whole : App → Bool) (e0 e1 : Entry)
@@ -279,9 +290,10 @@ unfolding settled_of
 settled-none layout whole e0 e1 =
     let named = named_of layout e0 e1 in
     let by = by-none (waiting_of e0 e1) named (started_from layout whole named) (λ is. (waits-only e0 e1 NoApp is).0 refl) in
-    let quiet = none-waits e0 e1 in
-    (λ err. record { none_waits = quiet.0 (by.0 err).0; none_started = (by.0 err).1 },
-     λ fact. by.1 (quiet.1 fact.none_waits, fact.none_started))
+    let quiet = none-waits e0 e1 in (
+      λ err. record { none_waits = quiet.0 (by.0 err).0; none_started = (by.0 err).1 },
+      λ fact. by.1 (quiet.1 fact.none_waits, fact.none_started),
+    )
 
 -- that another one does than the one that is named
 pub settled-other : (layout : Places) (whole : App → Bool) (e0 e1 : Entry) (n s : App)
@@ -290,10 +302,11 @@ unfolding settled_of
 settled-other layout whole e0 e1 n s =
     let named = named_of layout e0 e1 in
     let by = by-other (waiting_of e0 e1) named (started_from layout whole named) n s (λ is. (waits-only e0 e1 (Fallback n s) is).1 n s refl) in
-    let quiet = none-waits e0 e1 in
-    (λ err. let parts = by.0 err in
-    record { none_waits = quiet.0 parts.0; named_is = parts.1; started_is = parts.2; differs = parts.3 },
-     λ fact. by.1 (quiet.1 fact.none_waits, fact.named_is, fact.started_is, fact.differs))
+    let quiet = none-waits e0 e1 in (
+      λ err. let parts = by.0 err in
+          record { none_waits = quiet.0 parts.0; named_is = parts.1; started_is = parts.2; differs = parts.3 },
+      λ fact. by.1 (quiet.1 fact.none_waits, fact.named_is, fact.started_is, fact.differs),
+    )
 
 -- that an entry waits
 pub settled-waiting : (layout : Places) (whole : App → Bool) (e0 e1 : Entry) (sector state : ℕ)

@@ -29,12 +29,7 @@ pub enum Unsettled {
 /// The application that runs, where no entry waits and the one that is named is whole; `ok` has the
 /// truth values of `choose`.
 #[tactic(auto, unfolding(crate::specs::Settled::settled_of))]
-pub fn settled(
-    layout: &Layout,
-    e0: &Entry,
-    e1: &Entry,
-    ok: &[bool; 18],
-) -> Result<App, Unsettled>
+pub fn settled(layout: &Layout, e0: &Entry, e1: &Entry, ok: &[bool; 18]) -> Result<App, Unsettled>
     ensures exact { result ≡ settled_of layout.now (is_whole ok.now) e0.now e1.now }
     ensures ok { (app : App) → (result ≡ Ok app)
         ↔ Settles layout.now (is_whole ok.now) e0.now e1.now app }

@@ -1,13 +1,12 @@
 -- What the rewrites of a boot leave, and when there are none.
-use Rattle.std.proofs.Common.{◌==◌, ◌≡◌, ◌≢◌, ◌↔◌, ℕ, zero, suc, Bool, true, false, List, [], ◌∷◌, ◌++◌, Option, Some, None, refl, sym, ap, ◌∙◌, ◌⊎◌, inl, inr, subst, arith}
+use Rattle.std.proofs.Common.{◌==◌, ◌≡◌, ◌≢◌, ◌↔◌, ℕ, zero, suc, true, false, List, [], ◌∷◌, ◌++◌, Option, Some, None, refl, sym, ap, ◌∙◌, ◌⊎◌, inl, inr, subst, arith}
 use Rattle.std.proofs.lemmas.Bool.{cases_Bool}
 use Rattle.std.proofs.lemmas.Bool.Decides.{nat_tests}
-use Rattle.std.proofs.lemmas.List.{append-nil}
 use Rattle.otadata.specs.declared.entry.Entry.{Entry}
 use Rattle.otadata.specs.Choice.{active_of}
 use Rattle.boot_select.specs.Settled.{NoneWaits, sectors}
 use Rattle.rollback.specs.declared.rewrite.Rewrite.{Rewrite}
-use Rattle.rollback.specs.Rewrite.{restated, written}
+use Rattle.rollback.specs.Rewrite.{written}
 use Rattle.rollback.specs.Boot.{abort, aborts, begin, begin_by, begin_in, boot_writes, given_up}
 
 -- the first entry once those that wait are aborted
@@ -79,6 +78,7 @@ boot_writes-none es = rw (boot_writes-parts es) (front, back)
   where
     still : (es 0).state ≢ 1 → (es 1).state ≢ 1 → begin (given_up (es 0)) (given_up (es 1)) ≡ begin (es 0) (es 1)
     still first second = rw (given_up-same (es 0) first, given_up-same (es 1) second) refl
+
     front : aborts es ++ begin (given_up (es 0)) (given_up (es 1)) ≡ [] → NoneWaits (es 0) (es 1)
     front none =
         let both = (append-none (aborts es) (begin (given_up (es 0)) (given_up (es 1)))).0 none in
@@ -90,12 +90,14 @@ boot_writes-none es = rw (boot_writes-parts es) (front, back)
           second = second;
           active = (begin_by-none es (active_of (es 0) (es 1))).0 (sym (still first second) ∙ both.1);
         }
+
     back : NoneWaits (es 0) (es 1) → aborts es ++ begin (given_up (es 0)) (given_up (es 1)) ≡ []
     back fact =
-        (append-none (aborts es) (begin (given_up (es 0)) (given_up (es 1)))).1
-        ((append-none (abort 0 (es 0)) (abort 1 (es 1))).1
-        ((abort-none 0 (es 0)).1 fact.first, (abort-none 1 (es 1)).1 fact.second),
-         still fact.first fact.second ∙ (begin_by-none es (active_of (es 0) (es 1))).1 fact.active)
+        (append-none (aborts es) (begin (given_up (es 0)) (given_up (es 1)))).1 (
+          (append-none (abort 0 (es 0)) (abort 1 (es 1))).1
+              ((abort-none 0 (es 0)).1 fact.first, (abort-none 1 (es 1)).1 fact.second),
+          still fact.first fact.second ∙ (begin_by-none es (active_of (es 0) (es 1))).1 fact.active,
+        )
 
 -- the rewrites of a boot, as they are gathered
 pub gathered : (es : ℕ → Entry) (none one two all : List Rewrite) (first second : Entry)

@@ -1,5 +1,5 @@
 -- What an application rewrites that confirms itself, or rejects itself.
-use Rattle.std.specs.Prelude.{ℕ, ◌==◌, Bool, false, not, Option, Some, None, Result, Ok, Err, if◌then◌else◌}
+use Rattle.std.specs.Prelude.{◌≡◌, ℕ, ◌==◌, Bool, false, not, Option, Some, None, Result, Ok, Err, if◌then◌else◌}
 use Rattle.otadata.specs.declared.entry.Entry.{Entry}
 use Rattle.otadata.specs.Choice.{active_of}
 use Rattle.partition_table.specs.declared.app.App.{App}
@@ -15,7 +15,7 @@ use Rattle.rollback.specs.Rewrite.{changed, restated}
 
 -- the active entry becomes VALID, if it isn't already; there is none, no application to confirm
 abbrev pub confirm_by : (ℕ → Entry) → Option ℕ → Result (Option Rewrite) NoOtaApp
-confirm_by entries None = Err (record { })
+confirm_by entries None = Err (record {})
 confirm_by entries (Some sector) =
     Ok (if (entries sector).state == 2 then None else Some (restated 2 sector (entries sector)))
 
@@ -47,3 +47,17 @@ reject_by layout whole entries (Some sector) =
 -- the rewrite that rejects the active entry, or why it may not be rejected
 unfoldable pub reject_of : Places → (App → Bool) → Entry → Entry → Result Rewrite RejectNo
 reject_of layout whole e0 e1 = reject_by layout whole (sectors e0 e1) (active_of e0 e1)
+
+-- the active entry is VALID already
+pub record IsConfirmed (e0 e1 : Entry) : Type 0 where
+  pub sector : ℕ
+  pub active : active_of e0 e1 ≡ Some sector
+  pub confirmed : (sectors e0 e1 sector).state ≡ 2
+
+-- an entry is active, and once it is INVALID, no application would be started but that of its slot
+pub record HasNothingElse (layout : Places) (whole : App → Bool) (e0 e1 : Entry) : Type 0 where
+  pub sector : ℕ
+  pub active : active_of e0 e1 ≡ Some sector
+  pub nothing_else : (app : App)
+      → started_after layout whole (sectors e0 e1) (restated 3 sector (sectors e0 e1 sector)) ≡ Some app
+      → app ≡ slot_app layout (sectors e0 e1 sector)

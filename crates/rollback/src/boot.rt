@@ -44,11 +44,7 @@ fn given_up(entry: &Entry) -> Entry
 }
 
 /// The rewrites with the one that lets the active entry wait, where it is new.
-fn begin(
-    writes: ArrayVec<Rewrite, 2>,
-    first: &Entry,
-    second: &Entry,
-) -> ArrayVec<Rewrite, 2>
+fn begin(writes: ArrayVec<Rewrite, 2>, first: &Entry, second: &Entry) -> ArrayVec<Rewrite, 2>
     requires first { first.now.state ≡ 0 → length writes.items < 2 }
     requires second { second.now.state ≡ 0 → length writes.items < 2 }
     ensures exact { result.items ≡ writes.items ++ begin first.now second.now }

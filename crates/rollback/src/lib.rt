@@ -3,6 +3,8 @@
 
 mod boot;
 mod rewrite;
+#[cfg(test)]
+mod tests;
 mod verdict;
 
 pub use boot::boot_writes;
