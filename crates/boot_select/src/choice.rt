@@ -3,6 +3,7 @@
 
 ghost use Rattle.std.specs.Prelude.{◌≡◌};
 ghost use Rattle.boot_select.specs.Choice.{named_of};
+ghost use Rattle.boot_select.specs.Candidates.{IsStart};
 
 use otadata::{Entry, active, slot_of};
 use partition_table::{App, Layout};
@@ -14,6 +15,7 @@ use partition_table::{App, Layout};
 #[tactic(auto, unfolding(crate::specs::Choice::named_of))]
 pub fn named(layout: &Layout, e0: &Entry, e1: &Entry) -> App
     ensures exact { result ≡ named_of layout.now e0.now e1.now }
+    ensures start { IsStart layout.now result }
 {
     let entry = match active(e0, e1) {
         None => return App::Factory,

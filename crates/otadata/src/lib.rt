@@ -4,6 +4,7 @@
 mod choice;
 mod crc;
 mod entry;
+mod next;
 pub mod state;
 #[cfg(test)]
 mod tests;
@@ -13,3 +14,4 @@ pub use crc::{
     crc_is_read_from_the_remainder, crc_of, crc_of_known_sequences, division_leaves_one_remainder,
 };
 pub use entry::{BLANK, Entry, entries_are_their_bytes, entry_in};
+pub use next::{NextEntry, SeqSpent, next_entry, next_sequences_are_the_least};

@@ -127,3 +127,81 @@ fn a_sequence_names_the_slots_in_turn(rt: HostRuntime) {
         assert_eq!(rt; slot_of(seq, slots), want, "sequence {seq} of {slots}");
     }
 }
+
+#[test]
+fn the_next_entry_is_new_and_names_its_slot(rt: HostRuntime) {
+    let blank = entry(0xFFFF_FFFF, UNDEFINED, 0xFFFF_FFFF);
+    let one = entry(1, VALID, 0x4743_989A);
+    let rejected_two = entry(2, INVALID, 0x55F6_3774);
+    let three = entry(3, VALID, 0xED4A_5011);
+    let rejected_three = entry(3, INVALID, 0xED4A_5011);
+    let last = entry(0xFFFF_FFFE, VALID, 0x99F8_B879);
+    for (first, second, slot, slots, want, why) in [
+        (
+            blank,
+            blank,
+            0,
+            3,
+            Ok((0, 1, 0x4743_989A)),
+            "no entry is active",
+        ),
+        (
+            rejected_three,
+            rejected_two,
+            2,
+            3,
+            Ok((0, 3, 0xED4A_5011)),
+            "none is, but two match",
+        ),
+        (
+            one,
+            blank,
+            1,
+            2,
+            Ok((1, 2, 0x55F6_3774)),
+            "the first is active",
+        ),
+        (
+            one,
+            three,
+            1,
+            2,
+            Ok((0, 4, 0x709D_68A8)),
+            "the second is active",
+        ),
+        (
+            one,
+            three,
+            0,
+            2,
+            Ok((0, 3, 0xED4A_5011)),
+            "the slot is the active one",
+        ),
+        (
+            last,
+            blank,
+            1,
+            2,
+            Ok((1, 0xFFFF_FFFE, 0x99F8_B879)),
+            "the last sequence again",
+        ),
+        (
+            last,
+            blank,
+            0,
+            2,
+            Err(SeqSpent { seq: 0xFFFF_FFFE }),
+            "no sequence is left",
+        ),
+    ] {
+        let next = next_entry(&first, &second, slot, slots);
+        let want = match want {
+            Ok((sector, seq, crc)) => Ok(NextEntry {
+                sector,
+                entry: entry(seq, NEW, crc),
+            }),
+            Err(spent) => Err(spent),
+        };
+        assert_eq!(rt; next, want, "{why}");
+    }
+}

@@ -1,0 +1,3 @@
+-- Crates above cite these lemmas.
+pub mod CandidateLemmas
+pub mod SettledLemmas

@@ -1,0 +1,3 @@
+-- Crates above cite these lemmas.
+pub mod BootLemmas
+pub mod VerdictLemmas
