@@ -158,8 +158,10 @@ fn answer(alloc: Global, row: &Row<'_>) -> Result<(Status, MemSink), AllocError>
 }
 
 /// The rows.
-fn rows<'a>() -> [Row<'a>; 21] {
+fn rows<'a>() -> [Row<'a>; 23] {
     let magic = Status::Refused(Refusal::Table(TableBad::Magic { row: 5 }));
+    let digest = Status::Refused(Refusal::Table(TableBad::Md5 { row: 6 }));
+    let end = Status::Refused(Refusal::Table(TableBad::Magic { row: 7 }));
     let absent = Status::Refused(Refusal::Absent { file: 0 });
     let short = Status::Refused(Refusal::FlashSize { size: 3 });
     [
@@ -200,6 +202,16 @@ fn rows<'a>() -> [Row<'a>; 21] {
             change: (0x80A0, 0x00),
             status: magic,
             ..worded(&["choose", "F0"], magic, "refused: table magic row 5\n")
+        },
+        Row {
+            change: (0x80D0, 0x00),
+            status: digest,
+            ..worded(&["choose", "F0"], digest, "refused: table md5 row 6\n")
+        },
+        Row {
+            change: (0x80E0, 0x00),
+            status: end,
+            ..worded(&["choose", "F0"], end, "refused: table magic row 7\n")
         },
         Row {
             size: 3,
