@@ -1,3 +1,5 @@
 -- Crates above cite these lemmas.
 pub mod BootLemmas
 pub mod VerdictLemmas
+pub mod VoteLemmas
+pub mod ChanceLemmas
