@@ -11,6 +11,7 @@ use Rattle.partition_table.specs.declared.app.App.TheVariants.{Ota, Factory, Tes
 use Rattle.partition_table.specs.declared.row.Row.{Row}
 use Rattle.partition_table.specs.Layout.{Places, row_for}
 use Rattle.boot_select.specs.Choice.{named_by, named_of}
+use Rattle.boot_select.specs.Settled.{settled_by, settled_of, waiting_of}
 use Rattle.boot_select.specs.Candidates.{IsStart, after_front, candidates, down, front, started_from, tests, up}
 use Rattle.boot_select.specs.Boots.{AreOf, AreTold, app_of, first_held, held_or, images_in, names}
 
@@ -111,13 +112,13 @@ some_held images (x ∷ xs) app (inr later) held = at (images x) (some_held imag
     at None rest = rest
     at (Some image) rest = λ none. absurd cc
 
--- the application that is named starts where it has an image
-pub front_held : (layout : Places) (images : App → Option (List ℕ)) (start : App) (image : List ℕ) → IsStart layout start
+-- the application that is tried first starts where it has an image
+pub front_held : (layout : Places) (images : App → Option (List ℕ)) (start : App) (image : List ℕ) → start ≢ Test
     → images start ≡ Some image → first_held images (candidates layout start) ≡ Some (start, image)
 unfolding candidates
-front_held layout images (Ota slot) image is held = rw held refl
-front_held layout images Factory image is held = rw held refl
-front_held layout images Test image is held = absurd is
+front_held layout images (Ota slot) image other held = rw held refl
+front_held layout images Factory image other held = rw held refl
+front_held layout images Test image other held = absurd (other refl)
 
 -- the application that is named is factory, or that of a slot
 pub names_a_start : (layout : Places) (entries : ℕ → Entry) → 0 < length layout.slots → IsStart layout (names layout entries)
@@ -212,3 +213,14 @@ started-held layout whole images start told is =
 -- only applications of the layout have an image in a flash
 pub images_are_placed : (held : List ℕ → Option (List ℕ)) (layout : Places) (flash : List ℕ) → AreOf layout (images_in held layout flash)
 images_are_placed held layout flash = λ app none. rw none refl
+
+-- so they tell whether an update may begin
+pub settled-told : (layout : Places) (whole : App → Bool) (images : App → Option (List ℕ)) (entries : ℕ → Entry)
+    → AreTold layout whole images → 0 < length layout.slots
+    → settled_of layout whole (entries 0) (entries 1)
+    ≡ settled_by (waiting_of (entries 0) (entries 1)) (names layout entries)
+    (app_of (first_held images (candidates layout (names layout entries))))
+unfolding settled_of
+settled-told layout whole images entries told some =
+    ap (settled_by (waiting_of (entries 0) (entries 1)) (names layout entries))
+    (started-held layout whole images (names layout entries) told (names_a_start layout entries some))

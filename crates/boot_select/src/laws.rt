@@ -5,6 +5,7 @@ ghost use Rattle.std.specs.Prelude.{◌≡◌, ◌≢◌, ◌<◌, ◌≤◌, �
 ghost use Rattle.otadata.specs.declared.entry.Entry.{Entry};
 ghost use Rattle.otadata.specs.declared.next.NextEntry.{NextEntry};
 ghost use Rattle.partition_table.specs.declared.app.App.{App};
+ghost use Rattle.partition_table.specs.declared.app.App.TheVariants.{Test};
 ghost use Rattle.partition_table.specs.Layout.{Places, row_for};
 ghost use Rattle.boot_select.specs.Candidates.{IsStart, candidates, started_from};
 ghost use Rattle.boot_select.specs.Target.{Heralds, IsAim};
@@ -18,7 +19,7 @@ pub fn images_tell_what_starts()
     ensures holds { (images : App → Option (List ℕ)) (apps : List App) (app : App) (image : List ℕ)
         → first_held images apps ≡ Some (app, image) → images app ≡ Some image }
     ensures start { (layout : Places) (images : App → Option (List ℕ)) (start : App) (image : List ℕ)
-        → IsStart layout start → images start ≡ Some image
+        → start ≢ Test → images start ≡ Some image
         → first_held images (candidates layout start) ≡ Some (start, image) }
     ensures some { (layout : Places) (images : App → Option (List ℕ)) (start app : App)
         → row_for layout app ≢ None → images app ≢ None
