@@ -3,3 +3,4 @@ pub mod BootLemmas
 pub mod VerdictLemmas
 pub mod VoteLemmas
 pub mod ChanceLemmas
+pub mod PairLemmas
