@@ -4,3 +4,4 @@ pub mod VerdictLemmas
 pub mod VoteLemmas
 pub mod ChanceLemmas
 pub mod PairLemmas
+pub mod UpdateLemmas
