@@ -5,3 +5,4 @@ pub mod VoteLemmas
 pub mod ChanceLemmas
 pub mod PairLemmas
 pub mod UpdateLemmas
+pub mod LifeLemmas

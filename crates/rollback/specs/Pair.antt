@@ -1,11 +1,14 @@
 -- Two applications of which one boots, whatever becomes of the entry of one sector: what an update
 -- leaves, and what boots, confirmations and rejections keep.
-use Rattle.std.specs.Prelude.{◌≡◌, ◌≢◌, ◌<◌, ◌≤◌, ◌⊎◌, ◌-◌, ℕ, List, length, Option, Some}
+use Rattle.std.specs.Prelude.{◌≡◌, ◌≢◌, ◌<◌, ◌≤◌, ◌⊎◌, ◌-◌, ℕ, List, [], ◌∷◌, length, Option, Some}
 use Rattle.otadata.specs.declared.entry.Entry.{Entry}
-use Rattle.otadata.specs.Choice.{IsValid, Matches, slot_named}
+use Rattle.otadata.specs.Choice.{IsValid, Matches, active_of, slot_named}
 use Rattle.partition_table.specs.declared.app.App.{App}
 use Rattle.partition_table.specs.declared.app.App.TheVariants.{Ota, Factory, Test}
 use Rattle.partition_table.specs.Layout.{Places}
+use Rattle.rollback.specs.Rewrite.{restated}
+use Rattle.rollback.specs.Boot.{boot_writes}
+use Rattle.rollback.specs.Boots.{IsSettled}
 
 -- the other one of two sectors
 abbrev pub other_of : ℕ → ℕ
@@ -60,3 +63,19 @@ pub record IsPair (layout : Places) (images : App → Option (List ℕ)) (entrie
 abbrev pub BootsOneOf : App → List ℕ → ℕ → List ℕ → Option (App × List ℕ) → Type 0
 BootsOneOf app image slot target booted =
     (booted ≡ Some (app, image)) ⊎ (booted ≡ Some (Ota slot, target))
+
+-- a boot rewrites nothing, or the entry of this sector alone
+pub data RewritesOnly (entries : ℕ → Entry) (sector : ℕ) : Type 0 where
+  -- it rewrites nothing
+  is_quiet : boot_writes entries ≡ [] → RewritesOnly entries sector
+  -- it gives up the application of the entry, which waits to be confirmed
+  aborts_it : (entries sector).state ≡ 1 → boot_writes entries ≡ restated 4 sector (entries sector) ∷ []
+      → RewritesOnly entries sector
+  -- it lets the entry wait, which is active and new
+  begins_it : (entries sector).state ≡ 0 → active_of (entries 0) (entries 1) ≡ Some sector
+      → boot_writes entries ≡ restated 1 sector (entries sector) ∷ [] → RewritesOnly entries sector
+
+-- an update may begin, from the application or from what the target slot holds
+abbrev pub SettlesOneOf : Places → (App → Option (List ℕ)) → (ℕ → Entry) → App → List ℕ → ℕ → List ℕ → Type 0
+SettlesOneOf layout images entries app image slot target =
+    IsSettled layout images entries app image ⊎ IsSettled layout images entries (Ota slot) target
