@@ -101,7 +101,7 @@ begins layout images es app image settled =
     ]
 
 -- an entry that counts, or does not match, or is INVALID or ABORTED
-idle_cases : (e : Entry) → IsValid e ⊎ (¬ Matches e) ⊎ (e.state ≡ 3) ⊎ (e.state ≡ 4)
+pub idle_cases : (e : Entry) → IsValid e ⊎ (¬ Matches e) ⊎ (e.state ≡ 3) ⊎ (e.state ≡ 4)
 idle_cases e = elim (matches_or_not e) [
   | inr lacks ↦ inr (inl lacks)
   | inl fits ↦ elim (cases_Bool (e.state == 3)) [
