@@ -6,3 +6,5 @@ pub mod ChanceLemmas
 pub mod PairLemmas
 pub mod UpdateLemmas
 pub mod LifeLemmas
+pub mod EntriesLemmas
+pub mod TruthLemmas

@@ -129,3 +129,36 @@ reject-nothing layout whole e0 e1 =
       λ err. let has = by.0 err in record { sector = has.0; active = has.1; nothing_else = has.2 },
       λ fact. by.1 (fact.sector, fact.active, fact.nothing_else),
     )
+
+-- ---- what is rewritten
+
+-- a confirmation makes the active entry VALID
+pub confirm-some : (e0 e1 : Entry) (write : Rewrite) → confirm_of e0 e1 ≡ Ok (Some write)
+    → (sector : ℕ) × (active_of e0 e1 ≡ Some sector) × (write ≡ restated 2 sector (sectors e0 e1 sector))
+unfolding confirm_of
+confirm-some e0 e1 write is = at (active_of e0 e1) refl is
+  where
+    at : (active : Option ℕ) → active_of e0 e1 ≡ active → confirm_by (sectors e0 e1) active ≡ Ok (Some write)
+        → (sector : ℕ) × (active_of e0 e1 ≡ Some sector) × (write ≡ restated 2 sector (sectors e0 e1 sector))
+    at None active is = absurd cc
+    at (Some y) active is = elim (cases_Bool ((sectors e0 e1 y).state == 2)) [
+      | inl p ↦ let none = rw p at is in absurd cc
+      | inr p ↦ let some = rw p at is in (y, active, cc)
+    ]
+
+-- a rejection makes it INVALID
+pub reject-ok : (layout : Places) (whole : App → Bool) (e0 e1 : Entry) (write : Rewrite)
+    → reject_of layout whole e0 e1 ≡ Ok write
+    → (sector : ℕ) × (active_of e0 e1 ≡ Some sector) × (write ≡ restated 3 sector (sectors e0 e1 sector))
+unfolding reject_of
+reject-ok layout whole e0 e1 write is = at (active_of e0 e1) refl is
+  where
+    at : (active : Option ℕ) → active_of e0 e1 ≡ active → reject_by layout whole (sectors e0 e1) active ≡ Ok write
+        → (sector : ℕ) × (active_of e0 e1 ≡ Some sector) × (write ≡ restated 3 sector (sectors e0 e1 sector))
+    at None active is = absurd cc
+    at (Some y) active is =
+        let restates = restated 3 y (sectors e0 e1 y) in
+        elim (cases_Bool (is_other (slot_app layout (sectors e0 e1 y)) (started_after layout whole (sectors e0 e1) restates))) [
+          | inl p ↦ let ok = rw p at is in (y, active, cc)
+          | inr p ↦ let err = rw p at is in absurd cc
+        ]
