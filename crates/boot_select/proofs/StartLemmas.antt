@@ -1,5 +1,5 @@
 -- Which applications are tried, and which one starts by its image.
-use Rattle.std.proofs.Common.{◌≡◌, ◌≢◌, ◌⊎◌, inl, inr, ℕ, zero, suc, ◌+◌, ◌-◌, ◌<◌, ◌≤◌, Bool, List, [], ◌∷◌, ◌++◌, length, slice_get, Option, Some, None, refl, ap, subst, arith}
+use Rattle.std.proofs.Common.{sym, ◌∙◌, ◌≡◌, ◌≢◌, ◌⊎◌, inl, inr, ℕ, zero, suc, ◌+◌, ◌-◌, ◌<◌, ◌≤◌, Bool, List, [], ◌∷◌, ◌++◌, length, slice_get, Option, Some, None, refl, ap, subst, arith}
 use Rattle.std.specs.List.{find}
 use Rattle.std.specs.Option.{is_some}
 use Rattle.std.proofs.Math.Nat.{mod-lt}
@@ -11,9 +11,9 @@ use Rattle.partition_table.specs.declared.app.App.TheVariants.{Ota, Factory, Tes
 use Rattle.partition_table.specs.declared.row.Row.{Row}
 use Rattle.partition_table.specs.Layout.{Places, row_for}
 use Rattle.boot_select.specs.Choice.{named_by, named_of}
-use Rattle.boot_select.specs.Settled.{settled_by, settled_of, waiting_of}
+use Rattle.boot_select.specs.Settled.{sectors, settled_by, settled_of, waiting_of}
 use Rattle.boot_select.specs.Candidates.{IsStart, after_front, candidates, down, front, started_from, tests, up}
-use Rattle.boot_select.specs.Boots.{AreOf, AreTold, app_of, first_held, held_or, images_in, names}
+use Rattle.boot_select.specs.Boots.{AreOf, AreTold, app_of, first_held, has_image, held_or, images_in, names}
 
 -- the application is one of these
 abbrev pub Among : App → List App → Type 0
@@ -214,13 +214,18 @@ started-held layout whole images start told is =
 pub images_are_placed : (held : List ℕ → Option (List ℕ)) (layout : Places) (flash : List ℕ) → AreOf layout (images_in held layout flash)
 images_are_placed held layout flash = λ app none. rw none refl
 
--- so they tell whether an update may begin
-pub settled-told : (layout : Places) (whole : App → Bool) (images : App → Option (List ℕ)) (entries : ℕ → Entry)
+-- so the first whole candidate is the one by the images
+pub started-told : (layout : Places) (whole : App → Bool) (images : App → Option (List ℕ)) (start : App)
+    → AreTold layout whole images → IsStart layout start
+    → started_from layout whole start ≡ started_from layout (has_image images) start
+started-told layout whole images start told is =
+    started-held layout whole images start told is ∙ sym (started-held layout (has_image images) images start (λ app placed. refl) is)
+
+-- and truth values tell whether an update may begin
+pub settled-told : (layout : Places) (whole : App → Bool) (images : App → Option (List ℕ)) (e0 e1 : Entry)
     → AreTold layout whole images → 0 < length layout.slots
-    → settled_of layout whole (entries 0) (entries 1)
-    ≡ settled_by (waiting_of (entries 0) (entries 1)) (names layout entries)
-    (app_of (first_held images (candidates layout (names layout entries))))
+    → settled_of layout whole e0 e1 ≡ settled_of layout (has_image images) e0 e1
 unfolding settled_of
-settled-told layout whole images entries told some =
-    ap (settled_by (waiting_of (entries 0) (entries 1)) (names layout entries))
-    (started-held layout whole images (names layout entries) told (names_a_start layout entries some))
+settled-told layout whole images e0 e1 told some =
+    ap (settled_by (waiting_of e0 e1) (named_of layout e0 e1))
+    (started-told layout whole images (named_of layout e0 e1) told (names_a_start layout (sectors e0 e1) some))

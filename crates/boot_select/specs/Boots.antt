@@ -46,10 +46,14 @@ abbrev pub app_of : Option (App × List ℕ) → Option App
 app_of None = None
 app_of (Some booted) = Some booted.0
 
+-- whether an application has an image
+abbrev pub has_image : (App → Option (List ℕ)) → App → Bool
+has_image images app = is_some (images app)
+
 -- of each application of a layout the truth value tells whether it has an image
 abbrev pub AreTold : Places → (App → Bool) → (App → Option (List ℕ)) → Type 0
 AreTold layout whole images =
-    (app : App) → row_for layout app ≢ None → whole app ≡ is_some (images app)
+    (app : App) → row_for layout app ≢ None → whole app ≡ has_image images app
 
 -- only applications of the layout have an image
 abbrev pub AreOf : Places → (App → Option (List ℕ)) → Type 0

@@ -1,6 +1,6 @@
 -- What a loss of power in the rewrite of an entry may make of what boots: whatever entry is found, what
 -- boots is what the VALID or the INVALID one gives, or the one that is found matches by chance.
-use Rattle.std.proofs.Common.{◌==◌, ◌≡◌, ◌≢◌, ◌⊎◌, inl, inr, ℕ, zero, suc, ◌<◌, Bool, true, false, IsTrue, List, length, Option, Some, None, refl, sym, ap, ◌∙◌, subst, if◌then◌else◌, arith}
+use Rattle.std.proofs.Common.{◌==◌, ◌≡◌, ◌≢◌, ◌⊎◌, inl, inr, ℕ, zero, suc, ◌<◌, true, false, List, Option, Some, None, refl, sym, ap, ◌∙◌, arith}
 use Rattle.std.proofs.lemmas.Bool.{cases_Bool}
 use Rattle.std.proofs.lemmas.Bool.Decides.{nat_tests}
 use Rattle.std.proofs.lemmas.Grind.{common_steps}
@@ -11,10 +11,10 @@ use Rattle.partition_table.specs.declared.app.App.{App}
 use Rattle.partition_table.specs.Layout.{Places}
 use Rattle.boot_select.specs.Candidates.{candidates}
 use Rattle.boot_select.specs.Boots.{first_held}
-use Rattle.rollback.specs.Rewrite.{changed, with_state}
+use Rattle.rollback.specs.Rewrite.{with_state}
 use Rattle.rollback.specs.Boots.{BootsByVerdict, IsChance, boots, in_state}
 use Rattle.rollback.specs.Pair.{other_of}
-use Rattle.rollback.proofs.VoteLemmas.{boots_votes, counted, named_seq, pick, pick_swap, vote}
+use Rattle.rollback.proofs.VoteLemmas.{boots_votes, named_seq, pick, pick_swap, vote}
 
 -- ---- votes
 

@@ -1,20 +1,18 @@
 -- What is rewritten and what boots depends on the entries of the two sectors alone; and each rewrite of a
 -- boot gives the entry that stands there another state.
-use Rattle.std.proofs.Common.{◌==◌, ◌≡◌, ◌≢◌, ◌⊎◌, inl, inr, ℕ, zero, suc, ◌<◌, Bool, true, false, List, [], ◌∷◌, ◌++◌, Option, Some, None, refl, sym, ap, ◌∙◌, subst, arith}
+use Rattle.std.proofs.Common.{◌==◌, ◌≡◌, ◌⊎◌, inl, inr, ℕ, zero, suc, ◌<◌, true, false, List, [], ◌∷◌, ◌++◌, Option, Some, None, refl, sym, ap, ◌∙◌, arith}
 use Rattle.std.proofs.lemmas.Bool.{cases_Bool}
-use Rattle.std.proofs.lemmas.Bool.Decides.{nat_tests}
 use Rattle.otadata.specs.declared.entry.Entry.{Entry}
 use Rattle.otadata.specs.Choice.{active_of}
 use Rattle.partition_table.specs.declared.app.App.{App}
 use Rattle.partition_table.specs.Layout.{Places}
 use Rattle.boot_select.specs.Choice.{named_of}
 use Rattle.boot_select.specs.Candidates.{candidates}
-use Rattle.boot_select.specs.Settled.{sectors}
 use Rattle.boot_select.specs.Boots.{first_held}
 use Rattle.rollback.specs.declared.rewrite.Rewrite.{Rewrite}
-use Rattle.rollback.specs.Rewrite.{AreRestated, changed, restated, written}
+use Rattle.rollback.specs.Rewrite.{AreRestated, changed, written}
 use Rattle.rollback.specs.Boot.{abort, aborts, begin, begin_by, begin_in, boot_writes}
-use Rattle.rollback.specs.Boots.{IsSettled, after_boot, boots}
+use Rattle.rollback.specs.Boots.{after_boot, boots}
 use Rattle.rollback.proofs.BootLemmas.{boot_writes-parts}
 use Rattle.rollback.proofs.ChanceLemmas.{same_votes}
 

@@ -1,22 +1,20 @@
 -- A pair stays one through boots, confirmations and rejections, and a boot and a confirmation settle it.
-use Rattle.std.proofs.Common.{◌==◌, ◌≡◌, ◌≢◌, ◌⊎◌, inl, inr, ℕ, zero, suc, ◌<◌, ◌≤◌, max, Bool, true, false, List, [], ◌∷◌, ◌++◌, length, Option, Some, None, refl, sym, ap, ◌∙◌, subst, arith}
+use Rattle.std.proofs.Common.{◌==◌, ◌≡◌, ◌≢◌, ◌⊎◌, inl, inr, ℕ, zero, suc, ◌<◌, ◌≤◌, max, true, List, [], ◌∷◌, ◌++◌, length, Option, Some, refl, sym, ap, ◌∙◌, subst, arith}
 use Rattle.std.proofs.lemmas.Bool.{cases_Bool}
 use Rattle.std.proofs.lemmas.Bool.Decides.{nat_tests}
-use Rattle.std.proofs.lemmas.Grind.{common_steps}
 use Rattle.otadata.specs.declared.entry.Entry.{Entry}
 use Rattle.otadata.specs.Choice.{IsValid, Matches, active_of, slot_named}
-use Rattle.otadata.proofs.ChoiceLemmas.{active-first, active-none, active-second, active_cases}
+use Rattle.otadata.proofs.ChoiceLemmas.{active-first, active-second, active_cases}
 use Rattle.partition_table.specs.declared.app.App.{App}
-use Rattle.partition_table.specs.declared.app.App.TheVariants.{Ota, Factory, Test}
+use Rattle.partition_table.specs.declared.app.App.TheVariants.{Ota}
 use Rattle.partition_table.specs.Layout.{Places}
 use Rattle.boot_select.specs.Choice.{slot_app}
-use Rattle.boot_select.specs.Settled.{NoneWaits, sectors}
-use Rattle.boot_select.specs.Candidates.{candidates}
-use Rattle.boot_select.specs.Boots.{first_held, names}
+use Rattle.boot_select.specs.Settled.{sectors}
+use Rattle.boot_select.specs.Boots.{names}
 use Rattle.rollback.specs.declared.rewrite.Rewrite.{Rewrite}
-use Rattle.rollback.specs.Rewrite.{changed, restated, with_state, written}
+use Rattle.rollback.specs.Rewrite.{restated, with_state, written}
 use Rattle.rollback.specs.Boot.{abort, aborts, begin, begin_by, begin_in, boot_writes, given_up}
-use Rattle.rollback.specs.Boots.{IsChance, IsSettled, after_boot, boots, in_state}
+use Rattle.rollback.specs.Boots.{IsChance, after_boot, boots, in_state}
 use Rattle.rollback.specs.Pair.{IsHarmless, IsPair, Keeps, RewritesOnly, SettlesOneOf, aborts_it, begins_it, is_quiet, below, names_running, names_target, other_of, rejected, unmatched}
 use Rattle.rollback.specs.Pair as pair_of
 use Rattle.rollback.proofs.BootLemmas.{abort-none, begin_in-none, boot_writes-none, boot_writes-parts, given_up-same}

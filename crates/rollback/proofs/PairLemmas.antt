@@ -1,8 +1,8 @@
 -- Where some application has an image, some application boots; and a pair boots one of its two.
-use Rattle.std.proofs.Common.{◌==◌, ◌≡◌, ◌≢◌, ◌⊎◌, inl, inr, ℕ, zero, suc, ◌<◌, ◌≤◌, max, Bool, true, false, List, length, Option, Some, None, refl, sym, ap, ◌∙◌, subst, arith}
+use Rattle.std.proofs.Common.{◌≡◌, ◌≢◌, ◌⊎◌, inl, inr, ℕ, ◌≤◌, max, List, length, Option, Some, None, refl, sym, ap, ◌∙◌, arith}
 use Rattle.std.proofs.lemmas.Bool.{cases_lt}
 use Rattle.otadata.specs.declared.entry.Entry.{Entry}
-use Rattle.otadata.specs.Choice.{IsValid, Matches, slot_named}
+use Rattle.otadata.specs.Choice.{IsValid, slot_named}
 use Rattle.partition_table.specs.declared.app.App.{App}
 use Rattle.partition_table.specs.declared.app.App.TheVariants.{Ota, Factory, Test}
 use Rattle.partition_table.specs.Layout.{Places, row_for}
@@ -10,8 +10,8 @@ use Rattle.boot_select.specs.Candidates.{candidates}
 use Rattle.boot_select.specs.Boots.{AreOf, first_held, names}
 use Rattle.boot_select.proofs.StartLemmas.{all_tried, first_holds, front_held, some_held}
 use Rattle.rollback.specs.Boots.{after_boot, boots}
-use Rattle.rollback.specs.Pair.{BootsOneOf, IsHarmless, IsPair, Keeps, KeepsFactory, KeepsSlot, below, given_up, names_running, names_target, other_of, rejected, unmatched}
-use Rattle.rollback.proofs.VoteLemmas.{boots_votes, named_seq, pick, vote}
+use Rattle.rollback.specs.Pair.{BootsOneOf, IsHarmless, IsPair, Keeps, below, given_up, names_running, names_target, other_of, rejected, unmatched}
+use Rattle.rollback.proofs.VoteLemmas.{named_seq, pick, vote}
 use Rattle.rollback.proofs.ChanceLemmas.{boots_at, invalid_vote, unmatched_vote, valid_vote, vote_cases}
 
 -- ---- some application boots

@@ -1,5 +1,5 @@
 -- Truth values tell what boots, and whether an update may begin.
-use Rattle.std.proofs.Common.{◌≡◌, ◌≢◌, ◌↔◌, ℕ, ◌<◌, Bool, List, [], length, Option, Some, None, Ok, Err, refl, sym, ap, ◌∙◌, subst}
+use Rattle.std.proofs.Common.{◌≡◌, ◌≢◌, ◌↔◌, ℕ, ◌<◌, Bool, List, [], length, Option, Some, None, Ok, Err, refl, sym, ap, ◌∙◌}
 use Rattle.otadata.specs.declared.entry.Entry.{Entry}
 use Rattle.partition_table.specs.declared.app.App.{App}
 use Rattle.partition_table.specs.Layout.{Places}

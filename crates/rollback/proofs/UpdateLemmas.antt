@@ -1,25 +1,22 @@
 -- What an update leaves: the old application boots until its entry is written, the new one once it is,
 -- and between them a pair or a chance match.
-use Rattle.std.proofs.Common.{◌==◌, ◌≡◌, ◌≢◌, ◌⊎◌, inl, inr, ℕ, zero, suc, ◌<◌, ◌≤◌, max, Bool, true, false, IsTrue, List, [], length, Option, Some, None, refl, sym, ap, ◌∙◌, subst, arith}
-use Rattle.std.proofs.lemmas.Bool.{cases_Bool, cases_lt}
+use Rattle.std.proofs.Common.{◌==◌, ◌≡◌, ◌≢◌, ◌⊎◌, inl, inr, ℕ, ◌<◌, ◌≤◌, max, true, false, List, length, Option, Some, None, refl, sym, ap, ◌∙◌, subst, arith}
+use Rattle.std.proofs.lemmas.Bool.{cases_Bool}
 use Rattle.std.proofs.lemmas.Bool.Decides.{nat_tests}
-use Rattle.std.proofs.lemmas.Grind.{common_steps}
 use Rattle.otadata.specs.declared.entry.Entry.{Entry}
 use Rattle.otadata.specs.Choice.{IsValid, Matches, active_of, matches, slot_named}
 use Rattle.otadata.specs.Next.{active_seq, next_sector, seq_at}
 use Rattle.otadata.proofs.ChoiceLemmas.{active-first, active-none, active-second, active_cases, matches_or_not, matching}
 use Rattle.partition_table.specs.declared.app.App.{App}
-use Rattle.partition_table.specs.declared.app.App.TheVariants.{Ota, Factory, Test}
+use Rattle.partition_table.specs.declared.app.App.TheVariants.{Ota, Factory}
 use Rattle.partition_table.specs.Layout.{Places}
 use Rattle.boot_select.specs.Choice.{named_by, named_of, slot_app}
-use Rattle.boot_select.specs.Candidates.{candidates}
 use Rattle.boot_select.specs.Settled.{is_same, sectors}
-use Rattle.boot_select.specs.Target.{Heralds, IsNotBelow, is_above, may_revive, target_by, target_of}
-use Rattle.boot_select.specs.Boots.{first_held, names}
+use Rattle.boot_select.specs.Target.{Heralds, IsNotBelow, is_above, target_by, target_of}
+use Rattle.boot_select.specs.Boots.{names}
 use Rattle.boot_select.proofs.SettledLemmas.{is_same-true}
-use Rattle.rollback.specs.Boot.{boot_writes}
 use Rattle.rollback.specs.Rewrite.{written}
-use Rattle.rollback.specs.Boots.{IsChance, IsSettled, after_boot, boots}
+use Rattle.rollback.specs.Boots.{IsChance, IsSettled, boots}
 use Rattle.rollback.specs.Pair.{IsHarmless, IsPair, Keeps, below, given_up, names_running, names_target, other_of, rejected, unmatched}
 use Rattle.rollback.proofs.BootLemmas.{boot_writes-none}
 use Rattle.rollback.proofs.VoteLemmas.{boot_names, named_seq, pick, vote}

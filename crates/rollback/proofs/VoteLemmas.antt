@@ -1,6 +1,6 @@
 -- What boots is told by two votes: the sequences of the entries that still count once a boot has made
 -- its rewrites.
-use Rattle.std.proofs.Common.{◌==◌, ◌≡◌, ◌≢◌, ◌⊎◌, inl, inr, ℕ, zero, suc, Bool, true, false, max, List, [], ◌∷◌, ◌++◌, length, Option, Some, None, refl, sym, ap, ◌∙◌, subst, if◌then◌else◌, arith}
+use Rattle.std.proofs.Common.{◌==◌, ◌≡◌, ◌⊎◌, inl, inr, ℕ, zero, suc, true, false, max, List, [], ◌∷◌, ◌++◌, length, Option, Some, None, refl, ap, ◌∙◌, if◌then◌else◌, arith}
 use Rattle.std.proofs.lemmas.Bool.{cases_Bool}
 use Rattle.std.proofs.lemmas.Bool.Decides.{nat_tests}
 use Rattle.std.proofs.lemmas.Grind.{common_steps}
@@ -16,7 +16,7 @@ use Rattle.rollback.specs.declared.rewrite.Rewrite.{Rewrite}
 use Rattle.rollback.specs.Rewrite.{changed, with_state, written}
 use Rattle.rollback.specs.Boot.{aborts, begin, begin_by, begin_in, boot_writes, given_up}
 use Rattle.rollback.specs.Boots.{after_boot, boots}
-use Rattle.rollback.proofs.BootLemmas.{aborted_0, aborted_1, boot_writes-parts}
+use Rattle.rollback.proofs.BootLemmas.{aborted_0, aborted_1}
 
 -- the sequence of an entry that counts
 abbrev pub counted : Entry → Option ℕ
