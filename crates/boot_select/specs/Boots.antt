@@ -23,8 +23,12 @@ abbrev pub image_by : (List ℕ → Option (List ℕ)) → List ℕ → Option R
 image_by held flash None = None
 image_by held flash (Some row) = held (slot_in flash row)
 
--- the image of each application of a layout
-abbrev pub images_in : (List ℕ → Option (List ℕ)) → Places → List ℕ → App → Option (List ℕ)
+-- what each application holds: its image, or none
+abbrev pub Images : Type 0
+Images = App → Option (List ℕ)
+
+-- what each application of a layout holds in a flash
+abbrev pub images_in : (List ℕ → Option (List ℕ)) → Places → List ℕ → Images
 images_in held layout flash app = image_by held flash (row_for layout app)
 
 -- the application that entries name, by the number of their sector
@@ -37,7 +41,7 @@ held_or app None other = other
 held_or app (Some image) other = Some (app, image)
 
 -- the first of these applications that has an image, with that image
-abbrev pub first_held : (App → Option (List ℕ)) → List App → Option (App × List ℕ)
+abbrev pub first_held : Images → List App → Option (App × List ℕ)
 first_held images [] = None
 first_held images (app ∷ apps) = held_or app (images app) (first_held images apps)
 
@@ -47,14 +51,14 @@ app_of None = None
 app_of (Some booted) = Some booted.0
 
 -- whether an application has an image
-abbrev pub has_image : (App → Option (List ℕ)) → App → Bool
+abbrev pub has_image : Images → App → Bool
 has_image images app = is_some (images app)
 
 -- of each application of a layout the truth value tells whether it has an image
-abbrev pub AreTold : Places → (App → Bool) → (App → Option (List ℕ)) → Type 0
+abbrev pub AreTold : Places → (App → Bool) → Images → Type 0
 AreTold layout whole images =
     (app : App) → row_for layout app ≢ None → whole app ≡ has_image images app
 
 -- only applications of the layout have an image
-abbrev pub AreOf : Places → (App → Option (List ℕ)) → Type 0
+abbrev pub AreOf : Places → Images → Type 0
 AreOf layout images = (app : App) → row_for layout app ≡ None → images app ≡ None

@@ -1,5 +1,5 @@
 -- A pair stays one through boots, confirmations and rejections, and a boot and a confirmation settle it.
-use Rattle.std.proofs.Common.{◌==◌, ◌≡◌, ◌≢◌, ◌⊎◌, inl, inr, ℕ, zero, suc, ◌<◌, ◌≤◌, max, true, List, [], ◌∷◌, ◌++◌, length, Option, Some, refl, sym, ap, ◌∙◌, subst, arith}
+use Rattle.std.proofs.Common.{◌==◌, ◌≡◌, ◌≢◌, ◌⊎◌, inl, inr, ℕ, zero, suc, ◌<◌, ◌≤◌, max, true, List, [], ◌∷◌, ◌++◌, length, Some, refl, sym, ap, ◌∙◌, subst, arith}
 use Rattle.std.proofs.lemmas.Bool.{cases_Bool}
 use Rattle.std.proofs.lemmas.Bool.Decides.{nat_tests}
 use Rattle.otadata.specs.declared.entry.Entry.{Entry}
@@ -10,7 +10,7 @@ use Rattle.partition_table.specs.declared.app.App.TheVariants.{Ota}
 use Rattle.partition_table.specs.Layout.{Places}
 use Rattle.boot_select.specs.Choice.{slot_app}
 use Rattle.boot_select.specs.Settled.{sectors}
-use Rattle.boot_select.specs.Boots.{names}
+use Rattle.boot_select.specs.Boots.{Images, names}
 use Rattle.rollback.specs.declared.rewrite.Rewrite.{Rewrite}
 use Rattle.rollback.specs.Rewrite.{restated, with_state, written}
 use Rattle.rollback.specs.Boot.{abort, aborts, begin, begin_by, begin_in, boot_writes, given_up}
@@ -26,8 +26,10 @@ use Rattle.rollback.proofs.UpdateLemmas.{idle_cases}
 -- ---- a rewrite of the entry of a pair
 
 -- an entry of the sequence of another one that matches and is neither INVALID nor ABORTED makes no more boot than that
-same_harmless : (layout : Places) (images : App → Option (List ℕ)) (app : App) (slot : ℕ) (target : List ℕ) (other e found : Entry)
-    → IsHarmless layout images app slot target other e → Matches e → e.state ≢ 3 → e.state ≢ 4 → found.seq ≡ e.seq
+same_harmless : (layout : Places) (images : Images) (app : App) (slot : ℕ) (target : List ℕ)
+    (other e found : Entry)
+    → IsHarmless layout images app slot target other e → Matches e → e.state ≢ 3 → e.state ≢ 4
+    → found.seq ≡ e.seq
     → IsHarmless layout images app slot target other found
 same_harmless layout images app slot target other e found (unmatched lacks) fits not_rejected not_given_up same = absurd (lacks fits)
 same_harmless layout images app slot target other e found (rejected is) fits not_rejected not_given_up same = absurd (not_rejected is)
@@ -40,9 +42,12 @@ same_harmless layout images app slot target other e found (names_target is holds
     names_target (ap (λ seq. slot_named seq (length layout.slots)) same ∙ is) holds
 
 -- a pair with another entry in its sector
-with_entry : (layout : Places) (images : App → Option (List ℕ)) (es gs : ℕ → Entry) (y : ℕ) (app : App) (image : List ℕ)
-    (slot : ℕ) (target : List ℕ) → IsPair layout images es y app image slot target → gs (other_of y) ≡ es (other_of y)
-    → IsHarmless layout images app slot target (es (other_of y)) (gs y) → IsPair layout images gs y app image slot target
+with_entry : (layout : Places) (images : Images) (es gs : ℕ → Entry) (y : ℕ) (app : App)
+    (image : List ℕ)
+    (slot : ℕ) (target : List ℕ) → IsPair layout images es y app image slot target
+    → gs (other_of y) ≡ es (other_of y)
+    → IsHarmless layout images app slot target (es (other_of y)) (gs y)
+    → IsPair layout images gs y app image slot target
 with_entry layout images es gs y app image slot target pair other harmless = record {
   two = pair.two;
   holds = pair.holds;
@@ -52,15 +57,21 @@ with_entry layout images es gs y app image slot target pair other harmless = rec
 }
 
 -- whatever is found in the sector of a pair whose entry is rewritten: it is that pair, or what is found matches by chance
-pub rewrite_pair : (layout : Places) (images : App → Option (List ℕ)) (es gs : ℕ → Entry) (y state : ℕ) (app : App) (image : List ℕ)
-    (slot : ℕ) (target : List ℕ) → IsPair layout images es y app image slot target → (es y).state ≢ 3 → (es y).state ≢ 4
+pub rewrite_pair : (layout : Places) (images : Images) (es gs : ℕ → Entry) (y state : ℕ) (app : App)
+    (image : List ℕ)
+    (slot : ℕ) (target : List ℕ) → IsPair layout images es y app image slot target
+    → (es y).state ≢ 3 → (es y).state ≢ 4
     → gs (other_of y) ≡ es (other_of y)
-    → IsChance (es y) (with_state state (es y)) (gs y) ⊎ IsPair layout images gs y app image slot target
+    → IsChance (es y) (with_state state (es y)) (gs y)
+    ⊎ IsPair layout images gs y app image slot target
 rewrite_pair layout images es gs y state app image slot target pair not_rejected not_given_up other =
-    let keep : IsHarmless layout images app slot target (es (other_of y)) (gs y) → IsPair layout images gs y app image slot target =
+    let keep : IsHarmless layout images app slot target (es (other_of y)) (gs y)
+    → IsPair layout images gs y app image slot target =
     with_entry layout images es gs y app image slot target pair other in
-    let same : Matches (es y) → (gs y).seq ≡ (es y).seq → IsHarmless layout images app slot target (es (other_of y)) (gs y) =
-    λ fits is. same_harmless layout images app slot target (es (other_of y)) (es y) (gs y) pair.harmless fits not_rejected not_given_up is in
+    let same : Matches (es y) → (gs y).seq ≡ (es y).seq
+    → IsHarmless layout images app slot target (es (other_of y)) (gs y) =
+    λ fits is. same_harmless layout images app slot target (es (other_of y)) (es y)
+    (gs y) pair.harmless fits not_rejected not_given_up is in
     elim (chance_or (es y) (with_state state (es y)) (gs y)) [
       | inl chance ↦ inl chance
       | inr rest ↦ elim rest [
@@ -77,7 +88,8 @@ rewrite_pair layout images es gs y state app image slot target pair not_rejected
 -- ---- what a boot rewrites
 
 -- no entry begins to wait, where neither that counts is new
-quiet_begin : (first second : Entry) → (IsValid first → first.state ≢ 0) → (IsValid second → second.state ≢ 0)
+quiet_begin : (first second : Entry) → (IsValid first → first.state ≢ 0) → (IsValid second
+    → second.state ≢ 0)
     → begin first second ≡ []
 quiet_begin first second not_first not_second = elim (active_cases first second) [
   | inl is_first ↦ ap (begin_by first second) is_first
@@ -95,25 +107,32 @@ given_up_invalid e fact = fact.not_given_up refl
 
 -- no entry waits where none is pending, and the active one is not new
 quiet_boot : (es : ℕ → Entry) → (es 0).state ≢ 1 → (es 1).state ≢ 1
-    → ((y : ℕ) → active_of (es 0) (es 1) ≡ Some y → (sectors (es 0) (es 1) y).state ≢ 0) → boot_writes es ≡ []
+    → ((y : ℕ) → active_of (es 0) (es 1) ≡ Some y → (sectors (es 0) (es 1) y).state ≢ 0)
+    → boot_writes es ≡ []
 quiet_boot es first second active = (boot_writes-none es).1 (record { first = first; second = second; active = active })
 
 -- the rewrites of a boot where the second entry keeps its application
-writes_0 : (es : ℕ → Entry) → (es 1).state ≢ 1 → (IsValid (es 1) → (es 1).state ≢ 0) → RewritesOnly es 0
+writes_0 : (es : ℕ → Entry) → (es 1).state ≢ 1 → (IsValid (es 1) → (es 1).state ≢ 0)
+    → RewritesOnly es 0
 writes_0 es not_pending not_new = elim (cases_Bool ((es 0).state == 1)) [
   | inl p ↦
       let pending : (es 0).state ≡ 1 = grind (arith, nat_tests) in
-      aborts_it pending (boot_writes-parts es ∙ parts (abort_here p) ((abort-none 1 (es 1)).1 not_pending)
-      (ap (λ f. begin f (given_up (es 1))) (give_here p) ∙ ap (begin (with_state 4 (es 0))) (given_up-same (es 1) not_pending)
-      ∙ quiet_begin (with_state 4 (es 0)) (es 1) (λ fact. absurd (given_up_invalid (es 0) fact)) not_new))
+      aborts_it pending (boot_writes-parts es
+      ∙ parts (abort_here p) ((abort-none 1 (es 1)).1 not_pending)
+      (ap (λ f. begin f (given_up (es 1))) (give_here p)
+      ∙ ap (begin (with_state 4 (es 0))) (given_up-same (es 1) not_pending)
+      ∙ quiet_begin (with_state 4 (es 0)) (es 1)
+      (λ fact. absurd (given_up_invalid (es 0) fact)) not_new))
   | inr p ↦
       let other : (es 0).state ≢ 1 = grind (arith, nat_tests) in
       elim (active_cases (es 0) (es 1)) [
         | inl is_first ↦ elim (cases_Bool ((es 0).state == 0)) [
           | inl q ↦
               let new : (es 0).state ≡ 0 = grind (arith, nat_tests) in
-              begins_it new is_first (boot_writes-parts es ∙ parts ((abort-none 0 (es 0)).1 other) ((abort-none 1 (es 1)).1 not_pending)
-              (ap (λ f. begin f (given_up (es 1))) (given_up-same (es 0) other) ∙ ap (begin (es 0)) (given_up-same (es 1) not_pending)
+              begins_it new is_first (boot_writes-parts es
+              ∙ parts ((abort-none 0 (es 0)).1 other) ((abort-none 1 (es 1)).1 not_pending)
+              (ap (λ f. begin f (given_up (es 1))) (given_up-same (es 0) other)
+              ∙ ap (begin (es 0)) (given_up-same (es 1) not_pending)
               ∙ ap (begin_by (es 0) (es 1)) is_first ∙ begin_here q))
           | inr q ↦
               let old : (es 0).state ≢ 0 = grind (arith, nat_tests) in
@@ -130,7 +149,8 @@ writes_0 es not_pending not_new = elim (cases_Bool ((es 0).state == 1)) [
       ]
 ]
   where
-    parts : {a b c : List Rewrite} → abort 0 (es 0) ≡ a → abort 1 (es 1) ≡ b → begin (given_up (es 0)) (given_up (es 1)) ≡ c
+    parts : {a b c : List Rewrite} → abort 0 (es 0) ≡ a → abort 1 (es 1) ≡ b
+        → begin (given_up (es 0)) (given_up (es 1)) ≡ c
         → aborts es ++ begin (given_up (es 0)) (given_up (es 1)) ≡ (a ++ b) ++ c
     parts p q r = rw (p, q, r) refl
 
@@ -144,13 +164,17 @@ writes_0 es not_pending not_new = elim (cases_Bool ((es 0).state == 1)) [
     begin_here p = rw p refl
 
 -- the rewrites of a boot where the first entry keeps its application
-writes_1 : (es : ℕ → Entry) → (es 0).state ≢ 1 → (IsValid (es 0) → (es 0).state ≢ 0) → RewritesOnly es 1
+writes_1 : (es : ℕ → Entry) → (es 0).state ≢ 1 → (IsValid (es 0) → (es 0).state ≢ 0)
+    → RewritesOnly es 1
 writes_1 es not_pending not_new = elim (cases_Bool ((es 1).state == 1)) [
   | inl p ↦
       let pending : (es 1).state ≡ 1 = grind (arith, nat_tests) in
-      aborts_it pending (boot_writes-parts es ∙ parts ((abort-none 0 (es 0)).1 not_pending) (abort_here p)
-      (ap (begin (given_up (es 0))) (give_here p) ∙ ap (λ f. begin f (with_state 4 (es 1))) (given_up-same (es 0) not_pending)
-      ∙ quiet_begin (es 0) (with_state 4 (es 1)) not_new (λ fact. absurd (given_up_invalid (es 1) fact))))
+      aborts_it pending (boot_writes-parts es
+      ∙ parts ((abort-none 0 (es 0)).1 not_pending) (abort_here p)
+      (ap (begin (given_up (es 0))) (give_here p)
+      ∙ ap (λ f. begin f (with_state 4 (es 1))) (given_up-same (es 0) not_pending)
+      ∙ quiet_begin (es 0)
+      (with_state 4 (es 1)) not_new (λ fact. absurd (given_up_invalid (es 1) fact))))
   | inr p ↦
       let other : (es 1).state ≢ 1 = grind (arith, nat_tests) in
       elim (active_cases (es 0) (es 1)) [
@@ -162,8 +186,10 @@ writes_1 es not_pending not_new = elim (cases_Bool ((es 1).state == 1)) [
           | inl is_second ↦ elim (cases_Bool ((es 1).state == 0)) [
             | inl q ↦
                 let new : (es 1).state ≡ 0 = grind (arith, nat_tests) in
-                begins_it new is_second (boot_writes-parts es ∙ parts ((abort-none 0 (es 0)).1 not_pending) ((abort-none 1 (es 1)).1 other)
-                (ap (λ f. begin f (given_up (es 1))) (given_up-same (es 0) not_pending) ∙ ap (begin (es 0)) (given_up-same (es 1) other)
+                begins_it new is_second (boot_writes-parts es
+                ∙ parts ((abort-none 0 (es 0)).1 not_pending) ((abort-none 1 (es 1)).1 other)
+                (ap (λ f. begin f (given_up (es 1))) (given_up-same (es 0) not_pending)
+                ∙ ap (begin (es 0)) (given_up-same (es 1) other)
                 ∙ ap (begin_by (es 0) (es 1)) is_second ∙ begin_here q))
             | inr q ↦
                 let old : (es 1).state ≢ 0 = grind (arith, nat_tests) in
@@ -175,7 +201,8 @@ writes_1 es not_pending not_new = elim (cases_Bool ((es 1).state == 1)) [
       ]
 ]
   where
-    parts : {a b c : List Rewrite} → abort 0 (es 0) ≡ a → abort 1 (es 1) ≡ b → begin (given_up (es 0)) (given_up (es 1)) ≡ c
+    parts : {a b c : List Rewrite} → abort 0 (es 0) ≡ a → abort 1 (es 1) ≡ b
+        → begin (given_up (es 0)) (given_up (es 1)) ≡ c
         → aborts es ++ begin (given_up (es 0)) (given_up (es 1)) ≡ (a ++ b) ++ c
     parts p q r = rw (p, q, r) refl
 
@@ -189,12 +216,16 @@ writes_1 es not_pending not_new = elim (cases_Bool ((es 1).state == 1)) [
     begin_here p = rw p refl
 
 -- a boot of a pair rewrites nothing, or its entry alone
-pub pair_writes : (layout : Places) (images : App → Option (List ℕ)) (es : ℕ → Entry) (y : ℕ) (app : App) (image : List ℕ)
-    (slot : ℕ) (target : List ℕ) → IsPair layout images es y app image slot target → RewritesOnly es y
+pub pair_writes : (layout : Places) (images : Images) (es : ℕ → Entry) (y : ℕ) (app : App)
+    (image : List ℕ)
+    (slot : ℕ) (target : List ℕ) → IsPair layout images es y app image slot target
+    → RewritesOnly es y
 pair_writes layout images es zero app image slot target pair =
-    writes_0 es (keeps-not_pending layout app 0 (es 1) pair.keeps) (keeps-not_new layout app 0 (es 1) pair.keeps)
+    writes_0 es (keeps-not_pending layout app 0 (es 1) pair.keeps)
+    (keeps-not_new layout app 0 (es 1) pair.keeps)
 pair_writes layout images es (suc zero) app image slot target pair =
-    writes_1 es (keeps-not_pending layout app 1 (es 0) pair.keeps) (keeps-not_new layout app 1 (es 0) pair.keeps)
+    writes_1 es (keeps-not_pending layout app 1 (es 0) pair.keeps)
+    (keeps-not_new layout app 1 (es 0) pair.keeps)
 pair_writes layout images es (suc (suc n)) app image slot target pair =
     let two = pair.two in absurd (omega arith)
 
@@ -204,12 +235,15 @@ pair_writes layout images es (suc (suc n)) app image slot target pair =
 names_at : (layout : Places) (es : ℕ → Entry) (y : ℕ) → y < 2
     → names layout (after_boot es) ≡ named_seq layout (pick (vote (es y)) (vote (es (other_of y))))
 names_at layout es zero two = boot_names layout es
-names_at layout es (suc zero) two = boot_names layout es ∙ ap (named_seq layout) (pick_swap (vote (es 0)) (vote (es 1)))
+names_at layout es (suc zero) two = boot_names layout es
+    ∙ ap (named_seq layout) (pick_swap (vote (es 0)) (vote (es 1)))
 names_at layout es (suc (suc n)) two = absurd (omega arith)
 
 -- a pair of which a boot rewrites nothing is settled
-pub quiet_settles : (layout : Places) (images : App → Option (List ℕ)) (es : ℕ → Entry) (y : ℕ) (app : App) (image : List ℕ)
-    (slot : ℕ) (target : List ℕ) → IsPair layout images es y app image slot target → boot_writes es ≡ []
+pub quiet_settles : (layout : Places) (images : Images) (es : ℕ → Entry) (y : ℕ) (app : App)
+    (image : List ℕ)
+    (slot : ℕ) (target : List ℕ) → IsPair layout images es y app image slot target
+    → boot_writes es ≡ []
     → SettlesOneOf layout images es app image slot target
 quiet_settles layout images es y app image slot target pair quiet =
     let v = pick (vote (es y)) (vote (es (other_of y))) in
@@ -230,8 +264,10 @@ quiet_settles layout images es y app image slot target pair quiet =
     ]
 
 -- a pair whose entry neither waits nor is new is settled
-pub still_settles : (layout : Places) (images : App → Option (List ℕ)) (es : ℕ → Entry) (y : ℕ) (app : App) (image : List ℕ)
-    (slot : ℕ) (target : List ℕ) → IsPair layout images es y app image slot target → (es y).state ≢ 0 → (es y).state ≢ 1
+pub still_settles : (layout : Places) (images : Images) (es : ℕ → Entry) (y : ℕ) (app : App)
+    (image : List ℕ)
+    (slot : ℕ) (target : List ℕ) → IsPair layout images es y app image slot target
+    → (es y).state ≢ 0 → (es y).state ≢ 1
     → SettlesOneOf layout images es app image slot target
 still_settles layout images es y app image slot target pair not_new not_pending =
     at (pair_writes layout images es y app image slot target pair)
@@ -248,14 +284,17 @@ active_valid es (suc zero) two is = ((active-second (es 0) (es 1)).0 is).valid
 active_valid es (suc (suc n)) two is = absurd (omega arith)
 
 -- it is above the other one or as high, where that counts
-active_above : (es : ℕ → Entry) (y : ℕ) → y < 2 → active_of (es 0) (es 1) ≡ Some y → IsValid (es (other_of y))
+active_above : (es : ℕ → Entry) (y : ℕ) → y < 2 → active_of (es 0) (es 1) ≡ Some y
+    → IsValid (es (other_of y))
     → (es (other_of y)).seq ≤ (es y).seq
 active_above es zero two is other = ((active-first (es 0) (es 1)).0 is).unexceeded other
-active_above es (suc zero) two is other = let less = ((active-second (es 0) (es 1)).0 is).exceeds other in omega arith
+active_above es (suc zero) two is other = let less = ((active-second (es 0)
+    (es 1)).0 is).exceeds other in omega arith
 active_above es (suc (suc n)) two is other = absurd (omega arith)
 
 -- a pair whose entry is aborted
-aborted_pair : (layout : Places) (images : App → Option (List ℕ)) (es : ℕ → Entry) (y : ℕ) (app : App) (image : List ℕ)
+aborted_pair : (layout : Places) (images : Images) (es : ℕ → Entry) (y : ℕ) (app : App)
+    (image : List ℕ)
     (slot : ℕ) (target : List ℕ) → IsPair layout images es y app image slot target
     → IsPair layout images (in_state 4 y es) y app image slot target
 aborted_pair layout images es y app image slot target pair =
@@ -263,23 +302,28 @@ aborted_pair layout images es y app image slot target pair =
     (pair_of.given_up (ap (λ (e : Entry). e.state) (changed_here 4 y es)))
 
 -- a pair whose entry counts and gets another state
-valid_pair : (layout : Places) (images : App → Option (List ℕ)) (es : ℕ → Entry) (y state : ℕ) (app : App) (image : List ℕ)
+valid_pair : (layout : Places) (images : Images) (es : ℕ → Entry) (y state : ℕ) (app : App)
+    (image : List ℕ)
     (slot : ℕ) (target : List ℕ) → IsPair layout images es y app image slot target → IsValid (es y)
     → IsPair layout images (in_state state y es) y app image slot target
 valid_pair layout images es y state app image slot target pair fact =
     with_entry layout images es (in_state state y es) y app image slot target pair (changed_there state y es pair.two)
-    (same_harmless layout images app slot target (es (other_of y)) (es y) (in_state state y es y) pair.harmless fact.matches
+    (same_harmless layout images app slot target (es (other_of y)) (es y)
+    (in_state state y es y) pair.harmless fact.matches
     fact.not_rejected fact.not_given_up (ap (λ (e : Entry). e.seq) (changed_here state y es)))
 
 -- a boot of a pair leaves that pair
-pub boot_pair : (layout : Places) (images : App → Option (List ℕ)) (es : ℕ → Entry) (y : ℕ) (app : App) (image : List ℕ)
+pub boot_pair : (layout : Places) (images : Images) (es : ℕ → Entry) (y : ℕ) (app : App)
+    (image : List ℕ)
     (slot : ℕ) (target : List ℕ) → IsPair layout images es y app image slot target
     → IsPair layout images (after_boot es) y app image slot target
 boot_pair layout images es y app image slot target pair = at (pair_writes layout images es y app image slot target pair)
   where
-    leaves : (ws : List Rewrite) → boot_writes es ≡ ws → IsPair layout images (written ws es) y app image slot target
+    leaves : (ws : List Rewrite) → boot_writes es ≡ ws
+        → IsPair layout images (written ws es) y app image slot target
         → IsPair layout images (after_boot es) y app image slot target
-    leaves ws is left = subst (λ vs. IsPair layout images (written vs es) y app image slot target) (sym is) left
+    leaves ws is left = subst (λ vs. IsPair layout images (written vs es) y app image slot target)
+        (sym is) left
 
     at : RewritesOnly es y → IsPair layout images (after_boot es) y app image slot target
     at (is_quiet quiet) = leaves [] quiet pair
@@ -313,7 +357,8 @@ still_active es (suc zero) state two is small =
 still_active es (suc (suc n)) state two is small = absurd (omega arith)
 
 -- one boot of a pair settles it, or leaves its entry active and waiting
-pub boot_settles : (layout : Places) (images : App → Option (List ℕ)) (es : ℕ → Entry) (y : ℕ) (app : App) (image : List ℕ)
+pub boot_settles : (layout : Places) (images : Images) (es : ℕ → Entry) (y : ℕ) (app : App)
+    (image : List ℕ)
     (slot : ℕ) (target : List ℕ) → IsPair layout images es y app image slot target
     → SettlesOneOf layout images (after_boot es) app image slot target
     ⊎ ((active_of (after_boot es 0) (after_boot es 1) ≡ Some y) × ((after_boot es y).state ≡ 1))
@@ -324,17 +369,25 @@ boot_settles layout images es y app image slot target pair = at (pair_writes lay
     at (is_quiet quiet) = inl (subst (λ vs. SettlesOneOf layout images (written vs es) app image slot target) (sym quiet)
         (quiet_settles layout images es y app image slot target pair quiet))
     at (aborts_it is made) =
-        let state : (in_state 4 y es y).state ≡ 4 = ap (λ (e : Entry). e.state) (changed_here 4 y es) in
-        inl (subst (λ vs. SettlesOneOf layout images (written vs es) app image slot target) (sym made)
+        let state : (in_state 4 y es y).state ≡ 4 = ap (λ (e : Entry). e.state)
+        (changed_here 4 y es) in
+        inl (subst (λ vs. SettlesOneOf layout images (written vs es) app image slot target)
+        (sym made)
         (still_settles layout images (in_state 4 y es) y app image slot target
         (aborted_pair layout images es y app image slot target pair) (omega arith) (omega arith)))
     at (begins_it is active made) =
-        inr (subst (λ vs. (active_of (written vs es 0) (written vs es 1) ≡ Some y) × ((written vs es y).state ≡ 1)) (sym made)
-        (still_active es y 1 pair.two active (omega arith), ap (λ (e : Entry). e.state) (changed_here 1 y es)))
+        inr (subst (λ vs. (active_of (written vs es 0) (written vs es 1) ≡ Some y)
+        × ((written vs es y).state ≡ 1)) (sym made) (
+          still_active es y 1 pair.two active (omega arith),
+          ap (λ (e : Entry). e.state)
+              (changed_here 1 y es),
+        ))
 
 -- a boot of a pair whose entry waits settles it
-pub second_boot_settles : (layout : Places) (images : App → Option (List ℕ)) (es : ℕ → Entry) (y : ℕ) (app : App) (image : List ℕ)
-    (slot : ℕ) (target : List ℕ) → IsPair layout images es y app image slot target → (es y).state ≡ 1
+pub second_boot_settles : (layout : Places) (images : Images) (es : ℕ → Entry) (y : ℕ) (app : App)
+    (image : List ℕ)
+    (slot : ℕ) (target : List ℕ) → IsPair layout images es y app image slot target
+    → (es y).state ≡ 1
     → SettlesOneOf layout images (after_boot es) app image slot target
 second_boot_settles layout images es y app image slot target pair pending =
     elim (boot_settles layout images es y app image slot target pair) [
@@ -351,29 +404,37 @@ second_boot_settles layout images es y app image slot target pair pending =
         never (suc (suc n)) two first second is = omega arith
     at (aborts_it is made) waits =
         let state : (after_boot es y).state ≡ 4 =
-        ap (λ vs. (written vs es y).state) made ∙ ap (λ (e : Entry). e.state) (changed_here 4 y es) in
+        ap (λ vs. (written vs es y).state) made
+        ∙ ap (λ (e : Entry). e.state) (changed_here 4 y es) in
         omega arith
     at (begins_it is active made) waits = omega arith
 
 -- a confirmation of the active entry of a pair settles it
-pub confirm_settles : (layout : Places) (images : App → Option (List ℕ)) (es : ℕ → Entry) (y : ℕ) (app : App) (image : List ℕ)
-    (slot : ℕ) (target : List ℕ) → IsPair layout images es y app image slot target → active_of (es 0) (es 1) ≡ Some y
+pub confirm_settles : (layout : Places) (images : Images) (es : ℕ → Entry) (y : ℕ) (app : App)
+    (image : List ℕ)
+    (slot : ℕ) (target : List ℕ) → IsPair layout images es y app image slot target
+    → active_of (es 0) (es 1) ≡ Some y
     → SettlesOneOf layout images (in_state 2 y es) app image slot target
 confirm_settles layout images es y app image slot target pair active =
     let state : (in_state 2 y es y).state ≡ 2 = ap (λ (e : Entry). e.state) (changed_here 2 y es) in
     still_settles layout images (in_state 2 y es) y app image slot target
-    (valid_pair layout images es y 2 app image slot target pair (active_valid es y pair.two active)) (omega arith) (omega arith)
+    (valid_pair layout images es y 2 app image slot target pair (active_valid es y pair.two active))
+    (omega arith) (omega arith)
 
 -- once the active entry is VALID, its application boots, where it has an image
-pub confirmed_boots : (layout : Places) (images : App → Option (List ℕ)) (es : ℕ → Entry) (y : ℕ) (image : List ℕ) → y < 2
+pub confirmed_boots : (layout : Places) (images : Images) (es : ℕ → Entry) (y : ℕ) (image : List ℕ)
+    → y < 2
     → active_of (es 0) (es 1) ≡ Some y → images (slot_app layout (es y)) ≡ Some image
     → boots layout images (in_state 2 y es) ≡ Some (slot_app layout (es y), image)
 confirmed_boots layout images es y image two active holds =
     let fact = active_valid es y two active in
-    let voted : vote (in_state 2 y es y) ≡ Some (es y).seq = ap vote (changed_here 2 y es) ∙ confirmed_vote (es y) fact.matches in
+    let voted : vote (in_state 2 y es y) ≡ Some (es y).seq = ap vote (changed_here 2 y es)
+    ∙ confirmed_vote (es y) fact.matches in
     let other : vote (in_state 2 y es (other_of y)) ≡ vote (es (other_of y)) = ap vote (changed_there 2 y es two) in
-    let picked : pick (vote (in_state 2 y es y)) (vote (in_state 2 y es (other_of y))) ≡ Some (es y).seq =
-    ap (λ v. pick v (vote (in_state 2 y es (other_of y)))) voted ∙ ap (pick (Some (es y).seq)) other ∙ highest in
+    let picked : pick (vote (in_state 2 y es y))
+    (vote (in_state 2 y es (other_of y))) ≡ Some (es y).seq =
+    ap (λ v. pick v (vote (in_state 2 y es (other_of y)))) voted ∙ ap (pick (Some (es y).seq)) other
+    ∙ highest in
     boots_at layout images (in_state 2 y es) y two
     ∙ named_boots layout images _ (slot_app layout (es y)) image (ap (named_seq layout) picked) holds
   where
@@ -387,8 +448,9 @@ confirmed_boots layout images es y image two active holds =
                 let is : max (es y).seq (es (other_of y)).seq ≡ (es y).seq = omega arith in
                 ap (pick (Some (es y).seq)) some ∙ ap Some is
           ]
-      | inr rest ↦ ap (pick (Some (es y).seq)) (invalid_vote (es (other_of y)) (λ counts. elim rest [
-        | inl lacks ↦ lacks counts.matches
-        | inr states ↦ elim states [ inl is ↦ counts.not_rejected is | inr is ↦ counts.not_given_up is ]
-      ]))
+      | inr rest ↦ ap (pick (Some (es y).seq)) (invalid_vote (es (other_of y))
+          (λ counts. elim rest [
+            | inl lacks ↦ lacks counts.matches
+            | inr states ↦ elim states [ inl is ↦ counts.not_rejected is | inr is ↦ counts.not_given_up is ]
+          ]))
     ]

@@ -6,7 +6,7 @@ use Rattle.partition_table.specs.Layout.{Places}
 use Rattle.boot_select.specs.declared.settling.Unsettled.TheVariants.{Fallback, NoApp}
 use Rattle.boot_select.specs.Candidates.{started_from}
 use Rattle.boot_select.specs.Settled.{settled_of}
-use Rattle.boot_select.specs.Boots.{AreTold, app_of, names}
+use Rattle.boot_select.specs.Boots.{AreTold, Images, app_of, names}
 use Rattle.boot_select.proofs.SettledLemmas.{settled-none, settled-ok, settled-other}
 use Rattle.boot_select.proofs.StartLemmas.{names_a_start, started-held}
 use Rattle.rollback.specs.Boot.{boot_writes}
@@ -27,7 +27,7 @@ app_of-none None is = refl
 app_of-none (Some booted) is = absurd cc
 
 -- once a boot has made its rewrites, the first whole candidate is the one that boots
-pub started-boots : (layout : Places) (whole : App → Bool) (images : App → Option (List ℕ)) (es : ℕ → Entry)
+pub started-boots : (layout : Places) (whole : App → Bool) (images : Images) (es : ℕ → Entry)
     → AreTold layout whole images → 0 < length layout.slots
     → started_from layout whole (names layout (after_boot es)) ≡ app_of (boots layout images es)
 unfolding boots
@@ -35,7 +35,7 @@ started-boots layout whole images es told some =
     started-held layout whole images (names layout (after_boot es)) told (names_a_start layout (after_boot es) some)
 
 -- the first whole candidate is the one that boots, where a boot rewrites nothing
-quiet_started : (layout : Places) (whole : App → Bool) (images : App → Option (List ℕ)) (es : ℕ → Entry)
+quiet_started : (layout : Places) (whole : App → Bool) (images : Images) (es : ℕ → Entry)
     → AreTold layout whole images → 0 < length layout.slots → boot_writes es ≡ []
     → started_from layout whole (names layout es) ≡ app_of (boots layout images es)
 quiet_started layout whole images es told some quiet =
@@ -43,9 +43,11 @@ quiet_started layout whole images es told some quiet =
     ∙ sym (ap app_of (quiet_boots layout images es quiet))
 
 -- an update may begin exactly where it is settled by the images
-pub settled-images : (layout : Places) (whole : App → Bool) (images : App → Option (List ℕ)) (es : ℕ → Entry) (app : App)
+pub settled-images : (layout : Places) (whole : App → Bool) (images : Images) (es : ℕ → Entry)
+    (app : App)
     → AreTold layout whole images → 0 < length layout.slots
-    → (settled_of layout whole (es 0) (es 1) ≡ Ok app) ↔ ((image : List ℕ) × IsSettled layout images es app image)
+    → (settled_of layout whole (es 0) (es 1) ≡ Ok app) ↔ ((image : List ℕ)
+    × IsSettled layout images es app image)
 settled-images layout whole images es app told some =
     let by = settled-ok layout whole (es 0) (es 1) app in
     let rewrites = boot_writes-none es in (
@@ -66,9 +68,10 @@ settled-images layout whole images es app told some =
     )
 
 -- no application starts exactly where nothing boots
-pub no_app-images : (layout : Places) (whole : App → Bool) (images : App → Option (List ℕ)) (es : ℕ → Entry)
+pub no_app-images : (layout : Places) (whole : App → Bool) (images : Images) (es : ℕ → Entry)
     → AreTold layout whole images → 0 < length layout.slots
-    → (settled_of layout whole (es 0) (es 1) ≡ Err NoApp) ↔ ((boot_writes es ≡ []) × (boots layout images es ≡ None))
+    → (settled_of layout whole (es 0) (es 1) ≡ Err NoApp) ↔ ((boot_writes es ≡ [])
+    × (boots layout images es ≡ None))
 no_app-images layout whole images es told some =
     let by = settled-none layout whole (es 0) (es 1) in
     let rewrites = boot_writes-none es in (
@@ -83,10 +86,12 @@ no_app-images layout whole images es told some =
     )
 
 -- another application starts than the one that is named exactly where that boots
-pub fallback-images : (layout : Places) (whole : App → Bool) (images : App → Option (List ℕ)) (es : ℕ → Entry) (named other : App)
+pub fallback-images : (layout : Places) (whole : App → Bool) (images : Images) (es : ℕ → Entry)
+    (named other : App)
     → AreTold layout whole images → 0 < length layout.slots
     → (settled_of layout whole (es 0) (es 1) ≡ Err (Fallback named other))
-    ↔ ((boot_writes es ≡ []) × (names layout es ≡ named) × (app_of (boots layout images es) ≡ Some other) × (other ≢ named))
+    ↔ ((boot_writes es ≡ []) × (names layout es ≡ named)
+    × (app_of (boots layout images es) ≡ Some other) × (other ≢ named))
 fallback-images layout whole images es named other told some =
     let by = settled-other layout whole (es 0) (es 1) named other in
     let rewrites = boot_writes-none es in (

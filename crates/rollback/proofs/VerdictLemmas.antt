@@ -1,5 +1,5 @@
 -- When an application may not confirm itself or reject itself, in facts.
-use Rattle.std.proofs.Common.{ap, ◌<◌, List, length, ◌==◌, ◌≡◌, ◌≢◌, ◌↔◌, ℕ, Bool, true, false, Option, Some, None, Ok, Err, refl, ◌∙◌, ◌⊎◌, inl, inr, subst, arith}
+use Rattle.std.proofs.Common.{ap, ◌<◌, length, ◌==◌, ◌≡◌, ◌≢◌, ◌↔◌, ℕ, Bool, true, false, Option, Some, None, Ok, Err, refl, ◌∙◌, ◌⊎◌, inl, inr, subst, arith}
 use Rattle.std.proofs.lemmas.Bool.{cases_Bool}
 use Rattle.std.proofs.lemmas.Bool.Decides.{nat_tests}
 use Rattle.otadata.specs.declared.entry.Entry.{Entry}
@@ -10,7 +10,7 @@ use Rattle.partition_table.specs.Layout.{Places}
 use Rattle.boot_select.specs.Choice.{slot_app}
 use Rattle.boot_select.specs.Settled.{is_same, sectors}
 use Rattle.boot_select.proofs.SettledLemmas.{is_same-true}
-use Rattle.boot_select.specs.Boots.{AreTold, has_image, names}
+use Rattle.boot_select.specs.Boots.{AreTold, Images, has_image, names}
 use Rattle.boot_select.proofs.StartLemmas.{names_a_start, started-told}
 use Rattle.rollback.specs.declared.rewrite.Rewrite.{Rewrite}
 use Rattle.rollback.specs.declared.verdict.NoOtaApp.{NoOtaApp}
@@ -166,7 +166,7 @@ reject-ok layout whole e0 e1 write is = at (active_of e0 e1) refl is
         ]
 
 -- truth values tell whether an application may reject itself
-pub reject-told : (layout : Places) (whole : App → Bool) (images : App → Option (List ℕ)) (e0 e1 : Entry)
+pub reject-told : (layout : Places) (whole : App → Bool) (images : Images) (e0 e1 : Entry)
     → AreTold layout whole images → 0 < length layout.slots
     → reject_of layout whole e0 e1 ≡ reject_of layout (has_image images) e0 e1
 unfolding reject_of
