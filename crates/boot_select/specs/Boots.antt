@@ -1,5 +1,5 @@
--- What a flash says to a bootloader: the entries of its OTA data and the images of its applications;
--- and the first application that has an image.
+-- What a flash says to a bootloader: the entries of its OTA data and the images of its
+-- applications; and the first application that has an image.
 use Rattle.std.specs.Prelude.{◌≡◌, ◌≢◌, ℕ, Bool, List, [], ◌∷◌, take, drop, Option, Some, None}
 use Rattle.std.specs.Option.{is_some}
 use Rattle.otadata.specs.declared.entry.Entry.{Entry}
@@ -17,8 +17,8 @@ entries_in layout flash sector = entry_in flash layout.otadata sector
 abbrev pub slot_in : List ℕ → Row → List ℕ
 slot_in flash row = take row.size (drop row.offset flash)
 
--- the image that a partition holds, where there is one; `held` tells the whole image that bytes begin
--- with
+-- the image that a partition holds, where there is one; `held` tells the whole image that bytes
+-- begin with
 abbrev pub image_by : (List ℕ → Option (List ℕ)) → List ℕ → Option Row → Option (List ℕ)
 image_by held flash None = None
 image_by held flash (Some row) = held (slot_in flash row)

@@ -88,9 +88,8 @@ rewrite_pair layout images es gs y state app image slot target pair not_rejected
 -- ---- what a boot rewrites
 
 -- no entry begins to wait, where neither that counts is new
-quiet_begin : (first second : Entry) → (IsValid first → first.state ≢ 0) → (IsValid second
-    → second.state ≢ 0)
-    → begin first second ≡ []
+quiet_begin : (first second : Entry) → (IsValid first → first.state ≢ 0)
+    → (IsValid second → second.state ≢ 0) → begin first second ≡ []
 quiet_begin first second not_first not_second = elim (active_cases first second) [
   | inl is_first ↦ ap (begin_by first second) is_first
       ∙ (begin_in-none 0 first).1 (not_first ((active-first first second).0 is_first).valid)

@@ -1,5 +1,5 @@
--- What boots, by the entries and the images; when an update may begin; and what a loss of power in the
--- rewrite of an entry may make of it.
+-- What boots, by the entries and the images; when an update may begin; and what a loss of power in
+-- the rewrite of an entry may make of it.
 use Rattle.std.specs.Prelude.{◌≡◌, ◌≢◌, ◌⊎◌, ℕ, List, [], Option, Some}
 use Rattle.otadata.specs.declared.entry.Entry.{Entry}
 use Rattle.otadata.specs.Choice.{Matches}
@@ -16,14 +16,15 @@ after_boot entries = written (boot_writes entries) entries
 
 -- what boots: once the rewrites are made, the first candidate that has an image, with that image
 unfoldable pub boots : Places → Images → (ℕ → Entry) → Option (App × List ℕ)
-boots layout images entries = first_held images (candidates layout (names layout (after_boot entries)))
+boots layout images entries =
+    first_held images (candidates layout (names layout (after_boot entries)))
 
 -- what boots of a flash; `held` tells the whole image that bytes begin with
 abbrev pub boots_in : (List ℕ → Option (List ℕ)) → Places → List ℕ → Option (App × List ℕ)
 boots_in held layout flash = boots layout (images_in held layout flash) (entries_in layout flash)
 
--- an update may begin: a boot rewrites nothing, and the application that the entries name is the one
--- that boots, with this image
+-- an update may begin: a boot rewrites nothing, and the application that the entries name is the
+-- one that boots, with this image
 pub record IsSettled (layout : Places) (images : Images) (entries : ℕ → Entry) (app : App)
     (image : List ℕ) : Type 0 where
   pub quiet : boot_writes entries ≡ []

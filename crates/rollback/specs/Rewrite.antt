@@ -20,7 +20,8 @@ abbrev pub written : List Rewrite → (ℕ → Entry) → ℕ → Entry
 written [] entries = entries
 written (write ∷ writes) entries = written writes (changed write entries)
 
--- each of these rewrites gives the entry of its sector another state, as that stands when its turn comes
+-- each of these rewrites gives the entry of its sector another state, as that entry stands when its
+-- turn comes
 abbrev pub AreRestated : List Rewrite → (ℕ → Entry) → Type 0
 AreRestated [] entries = Unit {0}
 AreRestated (write ∷ writes) entries =
