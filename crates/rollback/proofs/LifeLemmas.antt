@@ -1,10 +1,10 @@
 -- A pair stays one through boots, confirmations and rejections, and a boot and a confirmation settle it.
-use Rattle.std.proofs.Common.{◌==◌, ◌≡◌, ◌≢◌, ◌⊎◌, inl, inr, ℕ, zero, suc, ◌<◌, ◌≤◌, max, true, List, [], ◌∷◌, ◌++◌, length, Some, refl, sym, ap, ◌∙◌, subst, arith}
+use Rattle.std.proofs.Common.{Option, ◌==◌, ◌≡◌, ◌≢◌, ◌⊎◌, inl, inr, ℕ, zero, suc, ◌<◌, ◌≤◌, max, true, List, [], ◌∷◌, ◌++◌, length, Some, refl, sym, ap, ◌∙◌, subst, arith}
 use Rattle.std.proofs.lemmas.Bool.{cases_Bool}
 use Rattle.std.proofs.lemmas.Bool.Decides.{nat_tests}
 use Rattle.otadata.specs.declared.entry.Entry.{Entry}
 use Rattle.otadata.specs.Choice.{IsValid, Matches, active_of, slot_named}
-use Rattle.otadata.proofs.ChoiceLemmas.{active-first, active-second, active_cases}
+use Rattle.otadata.proofs.ChoiceLemmas.{active-first, active-second, active_cases, matches_or_not}
 use Rattle.partition_table.specs.declared.app.App.{App}
 use Rattle.partition_table.specs.declared.app.App.TheVariants.{Ota}
 use Rattle.partition_table.specs.Layout.{Places}
@@ -14,13 +14,12 @@ use Rattle.boot_select.specs.Boots.{Images, names}
 use Rattle.rollback.specs.declared.rewrite.Rewrite.{Rewrite}
 use Rattle.rollback.specs.Rewrite.{restated, with_state, written}
 use Rattle.rollback.specs.Boot.{abort, aborts, begin, begin_by, begin_in, boot_writes, given_up}
-use Rattle.rollback.specs.Boots.{IsChance, after_boot, boots, in_state}
-use Rattle.rollback.specs.Pair.{IsHarmless, IsPair, Keeps, RewritesOnly, SettlesOneOf, aborts_it, begins_it, is_quiet, below, names_running, names_target, other_of, rejected, unmatched}
-use Rattle.rollback.specs.Pair as pair_of
+use Rattle.rollback.specs.Boots.{BootsByVerdict, IsChance, after_boot, boots, in_state}
+use Rattle.rollback.specs.Pair.{BootsOneOf, IsHarmless, IsPair, Keeps, RewritesOnly, SettlesOneOf, aborts_it, begins_it, is_quiet, below, names_running, names_target, other_of, rejected, unmatched, aborted}
 use Rattle.rollback.proofs.BootLemmas.{abort-none, begin_in-none, boot_writes-none, boot_writes-parts, given_up-same}
 use Rattle.rollback.proofs.VoteLemmas.{boot_names, named_seq, pick, pick_swap, vote}
 use Rattle.rollback.proofs.ChanceLemmas.{boots_at, chance_or, changed_here, changed_there, confirmed_vote, invalid_vote, vote_cases}
-use Rattle.rollback.proofs.PairLemmas.{keeps-not_new, keeps-not_pending, named_boots, pair_names}
+use Rattle.rollback.proofs.PairLemmas.{pair_boots, keeps-not_new, keeps-not_pending, named_boots, pair_names}
 use Rattle.rollback.proofs.UpdateLemmas.{idle_cases}
 
 -- ---- a rewrite of the entry of a pair
@@ -33,7 +32,7 @@ same_harmless : (layout : Places) (images : Images) (app : App) (slot : ℕ) (ta
     → IsHarmless layout images app slot target other found
 same_harmless layout images app slot target other e found (unmatched lacks) fits not_rejected not_given_up same = absurd (lacks fits)
 same_harmless layout images app slot target other e found (rejected is) fits not_rejected not_given_up same = absurd (not_rejected is)
-same_harmless layout images app slot target other e found (pair_of.given_up is) fits not_rejected not_given_up same = absurd (not_given_up is)
+same_harmless layout images app slot target other e found (aborted is) fits not_rejected not_given_up same = absurd (not_given_up is)
 same_harmless layout images app slot target other e found (below fact less) fits not_rejected not_given_up same =
     below fact (omega arith)
 same_harmless layout images app slot target other e found (names_running is) fits not_rejected not_given_up same =
@@ -83,6 +82,37 @@ rewrite_pair layout images es gs y state app image slot target pair not_rejected
               inr (keep (same old is.1))
         ]
       ]
+    ]
+
+-- of a pair, what boots where its entry is VALID or INVALID is one of its two applications
+pub verdict_boots : (layout : Places) (images : Images) (es : ℕ → Entry) (y : ℕ) (app : App)
+    (image : List ℕ) (slot : ℕ) (target : List ℕ) (booted : Option (App × List ℕ))
+    → IsPair layout images es y app image slot target → (es y).state ≢ 3 → (es y).state ≢ 4
+    → BootsByVerdict layout images es y booted → BootsOneOf app image slot target booted
+verdict_boots layout images es y app image slot target booted pair not_rejected not_given_up by =
+    elim by [
+      | inl valid ↦ subst (BootsOneOf app image slot target) (sym valid) (boots_of 2 confirmed)
+      | inr invalid ↦ subst (BootsOneOf app image slot target) (sym invalid)
+          (boots_of 3 (rejected (ap (λ (e : Entry). e.state) (changed_here 3 y es))))
+    ]
+  where
+    boots_of : (state : ℕ)
+        → IsHarmless layout images app slot target (es (other_of y)) (in_state state y es y)
+        → BootsOneOf app image slot target (boots layout images (in_state state y es))
+    boots_of state harmless =
+        pair_boots layout images (in_state state y es) y app image slot target
+        (with_entry layout images es (in_state state y es) y app image slot target pair
+        (changed_there state y es pair.two) harmless)
+
+    confirmed : IsHarmless layout images app slot target (es (other_of y)) (in_state 2 y es y)
+    confirmed = elim (matches_or_not (es y)) [
+      | inl fits ↦
+          same_harmless layout images app slot target (es (other_of y)) (es y) (in_state 2 y es y)
+          pair.harmless fits not_rejected not_given_up
+          (ap (λ (e : Entry). e.seq) (changed_here 2 y es))
+      | inr lacks ↦ unmatched (λ fits.
+          let is : Matches (with_state 2 (es y)) = subst Matches (changed_here 2 y es) fits in
+          lacks (record { crc_fits = is.crc_fits; numbered = is.numbered; written = is.written }))
     ]
 
 -- ---- what a boot rewrites
@@ -298,7 +328,7 @@ aborted_pair : (layout : Places) (images : Images) (es : ℕ → Entry) (y : ℕ
     → IsPair layout images (in_state 4 y es) y app image slot target
 aborted_pair layout images es y app image slot target pair =
     with_entry layout images es (in_state 4 y es) y app image slot target pair (changed_there 4 y es pair.two)
-    (pair_of.given_up (ap (λ (e : Entry). e.state) (changed_here 4 y es)))
+    (aborted (ap (λ (e : Entry). e.state) (changed_here 4 y es)))
 
 -- a pair whose entry counts and gets another state
 valid_pair : (layout : Places) (images : Images) (es : ℕ → Entry) (y state : ℕ) (app : App)

@@ -10,7 +10,7 @@ use Rattle.boot_select.specs.Candidates.{candidates}
 use Rattle.boot_select.specs.Boots.{AreOf, Images, first_held, names}
 use Rattle.boot_select.proofs.StartLemmas.{all_tried, first_holds, front_held, some_held}
 use Rattle.rollback.specs.Boots.{after_boot, boots}
-use Rattle.rollback.specs.Pair.{BootsOneOf, IsHarmless, IsPair, Keeps, below, given_up, names_running, names_target, other_of, rejected, unmatched}
+use Rattle.rollback.specs.Pair.{BootsOneOf, IsHarmless, IsPair, Keeps, below, aborted, names_running, names_target, other_of, rejected, unmatched}
 use Rattle.rollback.proofs.VoteLemmas.{named_seq, pick, vote}
 use Rattle.rollback.proofs.ChanceLemmas.{boots_at, invalid_vote, unmatched_vote, valid_vote, vote_cases}
 
@@ -133,7 +133,7 @@ pair_names layout images es y app image slot target pair = at (vote_cases (es y)
     at (inl none) harmless = inl (without none)
     at (inr some) (unmatched lacks) = inl (without (unmatched_vote (es y) lacks))
     at (inr some) (rejected is) = inl (without (invalid_vote (es y) (λ fact. fact.not_rejected is)))
-    at (inr some) (given_up is) = inl (without (invalid_vote (es y) (λ fact. fact.not_given_up is)))
+    at (inr some) (aborted is) = inl (without (invalid_vote (es y) (λ fact. fact.not_given_up is)))
     at (inr some) (below fact less) =
         let voted = valid_vote (es (other_of y)) fact (keeps-not_pending layout app y (es (other_of y)) pair.keeps) in
         inl (ap (λ v. named_seq layout (pick v (vote (es (other_of y))))) some

@@ -17,7 +17,7 @@ use Rattle.boot_select.specs.Boots.{Images, names}
 use Rattle.boot_select.proofs.SettledLemmas.{is_same-true}
 use Rattle.rollback.specs.Rewrite.{written}
 use Rattle.rollback.specs.Boots.{IsChance, IsSettled, boots}
-use Rattle.rollback.specs.Pair.{IsHarmless, IsPair, Keeps, below, given_up, names_running, names_target, other_of, rejected, unmatched}
+use Rattle.rollback.specs.Pair.{IsHarmless, IsPair, Keeps, below, aborted, names_running, names_target, other_of, rejected, unmatched}
 use Rattle.rollback.proofs.BootLemmas.{boot_writes-none}
 use Rattle.rollback.proofs.VoteLemmas.{boot_names, named_seq, pick, vote}
 use Rattle.rollback.proofs.ChanceLemmas.{boots_at, chance_or, invalid_vote, same_votes, valid_vote, vote_cases}
@@ -125,7 +125,7 @@ idle_harmless layout images app slot target other old idle = elim (idle_cases ol
   | inl fact ↦ below (idle.is_below fact).0 (idle.is_below fact).1
   | inr rest ↦ elim rest [
     | inl lacks ↦ unmatched lacks
-    | inr states ↦ elim states [ inl is ↦ rejected is | inr is ↦ given_up is ]
+    | inr states ↦ elim states [ inl is ↦ rejected is | inr is ↦ aborted is ]
   ]
 ]
 

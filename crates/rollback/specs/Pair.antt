@@ -44,7 +44,7 @@ pub data IsHarmless (layout : Places) (images : Images) (app : App) (slot : ℕ)
   -- it is INVALID
   rejected : entry.state ≡ 3 → IsHarmless layout images app slot image other entry
   -- it is ABORTED
-  given_up : entry.state ≡ 4 → IsHarmless layout images app slot image other entry
+  aborted : entry.state ≡ 4 → IsHarmless layout images app slot image other entry
   -- the other one counts and is not below
   below : IsValid other → entry.seq ≤ other.seq
       → IsHarmless layout images app slot image other entry

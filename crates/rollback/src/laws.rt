@@ -141,7 +141,8 @@ pub fn updates_leave_pairs()
 /// pair (`boot`). Whatever entry a loss of power leaves in that sector, as its entry was to get
 /// another state: it is that pair, or the entry that is left matches by chance (`lost`); this is
 /// asked of an entry that is neither INVALID nor ABORTED, as are those that a boot rewrites, and an
-/// active one.
+/// active one. What the verdict on such an entry makes boot is one of the two applications
+/// (`verdict`).
 pub fn pairs_stay()
     ensures writes { (layout : Places) (images : Images) (entries : ℕ → Entry) (sector : ℕ)
         (app : App) (image : List ℕ) (slot : ℕ) (target : List ℕ)
@@ -156,6 +157,12 @@ pub fn pairs_stay()
         → (entries sector).state ≢ 4 → left (other_of sector) ≡ entries (other_of sector)
         → IsChance (entries sector) (with_state state (entries sector)) (left sector)
         ⊎ IsPair layout images left sector app image slot target }
+    ensures verdict { (layout : Places) (images : Images) (entries : ℕ → Entry) (sector : ℕ)
+        (app : App) (image : List ℕ) (slot : ℕ) (target : List ℕ) (booted : Option (App × List ℕ))
+        → IsPair layout images entries sector app image slot target
+        → (entries sector).state ≢ 3 → (entries sector).state ≢ 4
+        → BootsByVerdict layout images entries sector booted
+        → BootsOneOf app image slot target booted }
 {}
 
 /// One boot of a pair leaves it settled, or its entry active and waiting (`boot`); then a second
