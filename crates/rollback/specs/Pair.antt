@@ -37,23 +37,23 @@ Keeps layout Test sector entry = ⊥
 
 -- the entry beside another one can't make anything boot but an application, or what its target slot
 -- holds
-pub data IsHarmless (layout : Places) (images : Images) (app : App) (slot : ℕ) (image : List ℕ)
+pub data IsHarmless (layout : Places) (images : Images) (app : App) (slot : ℕ) (target : List ℕ)
     (other entry : Entry) : Type 0 where
   -- it does not match
-  unmatched : ¬ Matches entry → IsHarmless layout images app slot image other entry
+  unmatched : ¬ Matches entry → IsHarmless layout images app slot target other entry
   -- it is INVALID
-  rejected : entry.state ≡ 3 → IsHarmless layout images app slot image other entry
+  rejected : entry.state ≡ 3 → IsHarmless layout images app slot target other entry
   -- it is ABORTED
-  aborted : entry.state ≡ 4 → IsHarmless layout images app slot image other entry
+  aborted : entry.state ≡ 4 → IsHarmless layout images app slot target other entry
   -- the other one counts and is not below
   below : IsValid other → entry.seq ≤ other.seq
-      → IsHarmless layout images app slot image other entry
+      → IsHarmless layout images app slot target other entry
   -- it names the application
   names_running : app ≡ Ota (slot_named entry.seq (length layout.slots))
-      → IsHarmless layout images app slot image other entry
-  -- it names the target slot, which holds the image
-  names_target : slot_named entry.seq (length layout.slots) ≡ slot → images (Ota slot) ≡ Some image
-      → IsHarmless layout images app slot image other entry
+      → IsHarmless layout images app slot target other entry
+  -- it names the target slot, which holds the target's image
+  names_target : slot_named entry.seq (length layout.slots) ≡ slot → images (Ota slot) ≡ Some target
+      → IsHarmless layout images app slot target other entry
 
 -- one of two boots: the application with its image, or what the target slot of an update holds
 pub record IsPair (layout : Places) (images : Images) (entries : ℕ → Entry) (sector : ℕ) (app : App)
