@@ -1,7 +1,7 @@
 -- How lists of steps that were made on a device go on, one after the other.
-use Rattle.std.specs.Prelude.{◌≡◌, ◌⊎◌, ℕ, List, [], ◌∷◌, ◌++◌, Option, Some, None, IfSome, Result, Ok, Err, IfErr, OnOk, OnErr}
+use Rattle.std.specs.Prelude.{◌≡◌, ℕ, List, [], ◌∷◌, ◌++◌, Option, Some, None, IfSome, Result, Ok, Err, IfErr, OnOk}
 use Rattle.std.proofs.Common.{refl, sym, ap, ◌∙◌, subst, inl, inr}
-use Rattle.std.proofs.lemmas.List.{append-nil, append_assoc}
+use Rattle.std.proofs.lemmas.List.{append_assoc}
 use Rattle.nor_device.specs.declared.step.Step.{Step}
 use Rattle.nor_device.specs.declared.nor.StepEnd.{StepEnd}
 use Rattle.nor_device.specs.declared.nor.StepEnd.TheVariants as ends
@@ -11,9 +11,9 @@ use Rattle.nor_device.specs.Torn.{Torn}
 use Rattle.nor_device.specs.Nor.{one_more, end_by}
 use Rattle.nor_device.specs.Make.{IsAfter, IsMissed}
 use Rattle.nor_device.proofs.FlashLaws.{after_steps_append}
-use Rattle.crash_images.specs.Crash.{IsAfterAll, IsLeftOf}
-use Rattle.crash_images.proofs.LeftOf.{after_none, after_both, left_of_none}
-use Rattle.boot_run.specs.Made.{count_after, IsDone, EachDone, AreMade, IsRefusedAfter, IsBrokenAfter, StopsAt, AreMissed}
+use Rattle.crash_images.specs.Crash.{IsAfterAll}
+use Rattle.crash_images.proofs.LeftOf.{after_none, after_both}
+use Rattle.boot_run.specs.Made.{count_after, EachDone, AreMade, IsRefusedAfter, StopsAt, AreMissed}
 
 -- the numbers of two lists of steps
 pub count_append : (count : ℕ) (front back : List Step)

@@ -2,4 +2,5 @@
 #![tactic(auto)]
 
 mod entries;
+mod verify;
 mod write;

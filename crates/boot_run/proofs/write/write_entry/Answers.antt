@@ -1,11 +1,9 @@
-use Rattle.std.proofs.Common.{◌≡◌, ◌+◌, ◌*◌, ◌/◌, List, [], ◌∷◌, OnOk, IfErr, subst, rules, ap, sym, ◌∙◌}
-use Rattle.std.proofs.lemmas.Result.{err_from_is_err_and}
+use Rattle.std.proofs.Common.{◌≡◌, ◌+◌, ◌*◌, ◌/◌, List, [], ◌∷◌, OnOk, IfErr, subst}
 use Rattle.nor_device.specs.declared.step.Step.{Step}
 use Rattle.nor_device.specs.declared.step.Step.TheVariants.{Erase, Program}
-use Rattle.otadata.specs.Entry.{entry_bytes}
 use Rattle.boot_run.specs.Rewriting.{rewrite}
 use Rattle.boot_run.specs.Made.{AreMade, AreMissed}
-use Rattle.boot_run.proofs.MadeLemmas.{made_one, missed_front, missed_one, on_made_one, on_missed_one, on_made_both, on_missed_back}
+use Rattle.boot_run.proofs.MadeLemmas.{made_one, on_made_one, on_missed_one, on_made_both, on_missed_back}
 use Rattle.boot_run.proofs.write.write_entry.Goals as goal
 
 -- both steps were made

@@ -1,44 +1,11 @@
-use Rattle.std.proofs.Common.{◌≡◌, ℕ, List, ◌+◌, ◌-◌, ◌≤◌, ◌++◌, length, take, drop, ap, ◌∙◌, sym, arith, subst, refl}
+use Rattle.std.proofs.Common.{◌≡◌, ℕ, List, ◌+◌, ◌-◌, ◌≤◌, ◌++◌, length, take, drop, ap, ◌∙◌, sym, arith, subst}
 use Rattle.std.proofs.Math.Seq.{take-add}
 use Rattle.std.proofs.lemmas.List.{length-take}
-use Rattle.std.specs.Prelude.{IfOk, IfErr, min, Result, Ok, Err, Some, None, IsOk, ◌↔◌}
-use Rattle.image_layout.specs.Whole.{Whole}
-use Rattle.image_verify.specs.declared.bad.BadImage.{BadImage}
-use Rattle.image_verify.specs.declared.info.ImageInfo.{ImageInfo}
-use Rattle.image_verify.specs.declared.reader.Reader.{Reader}
+use Rattle.std.specs.Prelude.{min}
 use Rattle.image_verify.specs.Walk.{plan}
-use Rattle.image_verify.specs.Bad.{bad}
-use Rattle.image_verify.specs.Held.{held}
-use Rattle.image_verify.specs.Info.{IsInfo, HoldsWith}
 use Rattle.image_verify.specs.Fed.{HasRead, wanted_by}
-use Rattle.image_verify.proofs.HeldFacts.{held_front}
-use Rattle.image_verify.proofs.WholeFacts.{whole_shows_none}
-use Rattle.image_verify.proofs.SlotFacts.{AtMost, at_most_more, held_done}
+use Rattle.image_verify.proofs.SlotFacts.{AtMost, at_most_more, slot_told, slot_refused}
 use Rattle.image_verify.proofs.slot.verify_slot.Goals as goal
-
--- what was read to its end, and is whole, is what the slot holds
-slot_told : (v : Reader) (result : Result ImageInfo BadImage) (slot : List ℕ) (n : ℕ)
-    → HasRead v (length slot) (take n slot)
-    → (IsOk result ↔ Whole (take n slot) (length slot))
-    → IfOk result (λ info. (limit : ℕ) (bytes : List ℕ) → HasRead v limit bytes → IsInfo bytes info)
-    → IfOk result (HoldsWith slot)
-slot_told v (Ok info) slot n read whole told = record {
-  image = take n slot;
-  holds = held_front slot n (whole_shows_none (length slot) (take n slot) (whole.0 refl));
-  told = told (length slot) (take n slot) read;
-}
-slot_told v (Err why) slot n read whole told = told
-
--- what was read to its end, and has a fault, tells that it holds none
-slot_refused : (v : Reader) (result : Result ImageInfo BadImage) (slot : List ℕ) (n : ℕ)
-    → HasRead v (length slot) (take n slot) → n ≤ length slot
-    → AtMost (take n slot) (plan (length slot) (take n slot))
-    → min (wanted_by (take n slot) (plan (length slot) (take n slot))) (length slot - n) ≡ 0
-    → IfErr result (λ why. (limit : ℕ) (bytes : List ℕ) → HasRead v limit bytes → bad limit bytes ≡ Some why)
-    → IfErr result (λ why. held slot ≡ None)
-slot_refused v (Ok info) slot n read within most done refused = refused
-slot_refused v (Err why) slot n read within most done refused =
-    held_done slot n why within most done (refused (length slot) (take n slot) read)
 
 -- as many bytes were read as were wanted
 pub loop-more-preserved : goal.loop-more-preserved
