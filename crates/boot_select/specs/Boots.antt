@@ -50,3 +50,7 @@ app_of (Some booted) = Some booted.0
 abbrev pub AreTold : Places → (App → Bool) → (App → Option (List ℕ)) → Type 0
 AreTold layout whole images =
     (app : App) → row_for layout app ≢ None → whole app ≡ is_some (images app)
+
+-- only applications of the layout have an image
+abbrev pub AreOf : Places → (App → Option (List ℕ)) → Type 0
+AreOf layout images = (app : App) → row_for layout app ≡ None → images app ≡ None

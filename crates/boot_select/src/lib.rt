@@ -3,6 +3,7 @@
 
 mod candidates;
 mod choice;
+mod laws;
 mod settling;
 mod slots;
 #[cfg(test)]
@@ -10,5 +11,6 @@ mod tests;
 
 pub use candidates::{choose, order};
 pub use choice::named;
+pub use laws::{aims_herald_their_slot, images_tell_what_starts};
 pub use settling::{Unsettled, settled};
 pub use slots::target;

@@ -1,3 +1,7 @@
 -- Crates above cite these lemmas.
 pub mod BootLemmas
 pub mod VerdictLemmas
+pub mod VoteLemmas
+pub mod ChanceLemmas
+pub mod PairLemmas
+pub mod UpdateLemmas
