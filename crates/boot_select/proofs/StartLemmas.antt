@@ -133,7 +133,7 @@ names_a_start layout entries some = at (active_of (entries 0) (entries 1))
 -- ---- by truth values
 
 -- a property of each of these
-abbrev Each : (App → Type 0) → List App → Type 0
+abbrev pub Each : (App → Type 0) → List App → Type 0
 Each P [] = Unit {0}
 Each P (x ∷ xs) = P x × Each P xs
 
@@ -159,7 +159,7 @@ get-some (row ∷ rows) zero less = λ none. absurd cc
 get-some (row ∷ rows) (suc i) less = get-some rows i (omega arith)
 
 -- each application that is tried is one of the layout
-tried_are_placed : (layout : Places) (start : App) → IsStart layout start
+pub tried_are_placed : (layout : Places) (start : App) → IsStart layout start
     → Each (λ app. row_for layout app ≢ None) (candidates layout start)
 unfolding candidates
 tried_are_placed layout start is =
