@@ -2,3 +2,6 @@
 pub mod MadeLemmas
 pub mod RewritingLemmas
 pub mod ReadLemmas
+pub mod FrameLemmas
+pub mod WritesLemmas
+pub mod CrashLemmas

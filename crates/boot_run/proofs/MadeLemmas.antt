@@ -11,7 +11,7 @@ use Rattle.nor_device.specs.Torn.{Torn}
 use Rattle.nor_device.specs.Nor.{one_more, end_by}
 use Rattle.nor_device.specs.Make.{IsAfter, IsMissed}
 use Rattle.nor_device.proofs.FlashLaws.{after_steps_append}
-use Rattle.crash_images.specs.Crash.{IsAfterAll}
+use Rattle.crash_images.specs.Crash.{IsAfterAll, IsLeftOf}
 use Rattle.crash_images.proofs.LeftOf.{after_none, after_both}
 use Rattle.boot_run.specs.Made.{count_after, EachDone, AreMade, IsRefusedAfter, StopsAt, AreMissed}
 
@@ -20,6 +20,12 @@ pub count_append : (count : ℕ) (front back : List Step)
     → count_after count (front ++ back) ≡ count_after (count_after count front) back
 count_append count [] back = refl
 count_append count (step ∷ front) back = count_append (one_more count) front back
+
+-- what all of the steps leave is left at some moment of them
+left_of_all : (steps : List Step) (old new : Option (List ℕ)) → IsAfterAll steps old new
+    → IsLeftOf steps old new
+left_of_all steps None new all = tt
+left_of_all steps (Some flash) new all = (after_steps flash steps, all, left_end flash steps)
 
 module _ {S : Type 0} (may_end : S → ℕ → StepEnd → Type 0)
     (may_tear : S → ℕ → List ℕ → Step → List ℕ → Type 0)
@@ -220,3 +226,38 @@ module _ {S : Type 0} (may_end : S → ℕ → StepEnd → Type 0)
   on_missed_one set step count now old new (Ok x) missed = missed
   on_missed_one set step count now old new (Err why) missed =
       missed_one set step count now old new why missed
+
+  -- what all of the steps leave is left at some moment of them
+  pub made_left : (set : S) (steps : List Step) (count now : ℕ) (old new : Option (List ℕ))
+      → Made set steps count now old new → IsLeftOf steps old new
+  made_left set steps count now old new made = left_of_all steps old new made.bytes
+
+  -- so is what is left where one was missed
+  pub missed_left : (set : S) (steps : List Step) (count now : ℕ) (old new : Option (List ℕ))
+      (why : NorFault) → Missed set steps count now old new why → IsLeftOf steps old new
+  missed_left set steps count now old new why missed =
+      subst (λ (l : List Step). IsLeftOf l old new) (sym missed.split) (by missed.rest missed.stops)
+    where
+      refused : (rest : List Step)
+          → IsRefusedAfter may_end may_tear may_refuse must_refuse set missed.made count now old new why
+          → IsLeftOf (missed.made ++ rest) old new
+      refused rest r = left_of_front missed.made rest old new (left_of_all missed.made old new r.bytes)
+
+      broken : (step : Step) (rest : List Step) (first : Option (List ℕ))
+          → IfSome first (λ flash. (left : List ℕ) × (new ≡ Some left)
+          × Torn (after_steps flash missed.made) step left
+          × may_tear set now (after_steps flash missed.made) step left)
+          → IsLeftOf (missed.made ++ (step ∷ rest)) first new
+      broken step rest None left = tt
+      broken step rest (Some flash) left = (
+        left.0,
+        left.1,
+        left_back flash missed.made (step ∷ rest) left.0
+            (left_torn (after_steps flash missed.made) step rest left.0 left.2),
+      )
+
+      by : (rest : List Step) → Stops set missed.made rest count now old new why
+          → IsLeftOf (missed.made ++ rest) old new
+      by [] r = refused [] r
+      by (step ∷ rest) (inl r) = refused (step ∷ rest) r
+      by (step ∷ rest) (inr b) = broken step rest old b.left
