@@ -12,7 +12,8 @@ use Rattle.nor_device.specs.Nor.{one_more, end_by}
 use Rattle.nor_device.specs.Make.{IsAfter, IsMissed}
 use Rattle.nor_device.proofs.FlashLaws.{after_steps_append}
 use Rattle.crash_images.specs.Crash.{IsAfterAll, IsLeftOf}
-use Rattle.crash_images.proofs.LeftOf.{after_none, after_both}
+use Rattle.crash_images.proofs.LeftOf.{after_none, after_both, left_of_front}
+use Rattle.crash_images.proofs.LeftLaws.{left_end, left_torn, left_back}
 use Rattle.boot_run.specs.Made.{count_after, EachDone, AreMade, IsRefusedAfter, StopsAt, AreMissed}
 
 -- the numbers of two lists of steps

@@ -1,6 +1,7 @@
 -- In reading order: steps on a device, the steps of a rewrite, what verifying tells, what a loss of
--- power leaves.
+-- power leaves, what a boot answers.
 pub mod Made
 pub mod Rewriting
 pub mod Verified
 pub mod Crashed
+pub mod Booted
