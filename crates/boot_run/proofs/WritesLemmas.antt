@@ -1,6 +1,8 @@
 -- The rewrites of a boot: at most two, of different sectors, and each gives the entry that stands there another state.
-use Rattle.std.proofs.Common.{◌==◌, ◌≡◌, ◌⊎◌, inl, inr, ℕ, zero, suc, ◌<◌, ◌≤◌, Bool, true, false, List, [], ◌∷◌, ◌++◌, length, Option, Some, None, refl, sym, ap, ◌∙◌, subst, if◌then◌else◌, arith, All}
+use Rattle.std.proofs.Common.{◌==◌, ◌≡◌, ◌⊎◌, inl, inr, ℕ, zero, suc, ◌<◌, ◌≤◌, Bool, true, false, List, [], ◌∷◌, ◌++◌, length, get_or, drop, ◌+◌, Option, Some, None, refl, sym, ap, ◌∙◌, subst, if◌then◌else◌, arith, All}
+use Rattle.std.proofs.Math.Seq.{drop-cons}
 use Rattle.std.proofs.lemmas.Bool.{cases_Bool}
+use Rattle.std.proofs.lemmas.List.{drop_all}
 use Rattle.std.proofs.lemmas.List.Elements.{All-nil, All-cons}
 use Rattle.otadata.specs.declared.entry.Entry.{Entry}
 use Rattle.otadata.specs.Choice.{active_of}
@@ -103,10 +105,14 @@ boot_short es short (w ∷ v ∷ []) are =
 boot_short es short (w ∷ v ∷ u ∷ ws) are = absurd are
 
 -- each is of one of two sectors
-pub short_two : (writes : List Rewrite) → AreShort writes → All (λ write. write.sector < 2) writes
-short_two [] short = All-nil (λ (write : Rewrite). write.sector < 2)
-short_two (w ∷ ws) short =
-    All-cons (λ (write : Rewrite). write.sector < 2) w ws short.0.0 (short_two ws short.1)
+pub boot_two : (es : ℕ → Entry) (writes : List Rewrite) → AreBoot es writes → All (λ write. write.sector < 2) writes
+boot_two es [] are = All-nil (λ (write : Rewrite). write.sector < 2)
+boot_two es (w ∷ []) are =
+    All-cons (λ (write : Rewrite). write.sector < 2) w [] are.two (All-nil (λ (write : Rewrite). write.sector < 2))
+boot_two es (w ∷ v ∷ []) are =
+    All-cons (λ (write : Rewrite). write.sector < 2) w (v ∷ []) are.0.two
+    (All-cons (λ (write : Rewrite). write.sector < 2) v [] are.1.two (All-nil (λ (write : Rewrite). write.sector < 2)))
+boot_two es (w ∷ v ∷ u ∷ ws) are = absurd are
 
 -- ---- only the entries of the two sectors count
 
@@ -125,6 +131,21 @@ written_same (w ∷ ws) es gs first second =
     written_same ws (changed w es) (changed w gs)
     (ap (λ e. if 0 == w.sector then w.entry else e) first)
     (ap (λ e. if 1 == w.sector then w.entry else e) second)
+
+-- rewrites go on from the entries after the first one
+pub written_more : (ws : List Rewrite) (i : ℕ) (d : Rewrite) (es gs : ℕ → Entry) → i < length ws
+    → gs 0 ≡ changed (get_or ws i d) es 0 → gs 1 ≡ changed (get_or ws i d) es 1
+    → (written (drop (i + 1) ws) gs 0 ≡ written (drop i ws) es 0) × (written (drop (i + 1) ws) gs 1 ≡ written (drop i ws) es 1)
+written_more ws i d es gs inside first second =
+    let next : i + 1 ≡ suc i = omega arith in
+    let front : drop i ws ≡ get_or ws i d ∷ drop (i + 1) ws =
+    drop-cons ws i d inside ∙ ap (λ n. get_or ws i d ∷ drop n ws) (sym next) in
+    let same = written_same (drop (i + 1) ws) gs (changed (get_or ws i d) es) first second in
+    (same.0 ∙ ap (λ l. written l es 0) (sym front), same.1 ∙ ap (λ l. written l es 1) (sym front))
+
+-- no rewrite is left
+pub written_all : (ws : List Rewrite) (i : ℕ) (es : ℕ → Entry) (y : ℕ) → length ws ≤ i → written (drop i ws) es y ≡ es y
+written_all ws i es y all = ap (λ l. written l es y) (drop_all i ws all)
 
 -- what boots
 pub boots_same : (layout : Places) (images : App → Option (List ℕ)) (es gs : ℕ → Entry) → es 0 ≡ gs 0

@@ -1,9 +1,10 @@
 -- Which applications are tried, and which one starts by its image.
-use Rattle.std.proofs.Common.{◌≡◌, ◌≢◌, ◌⊎◌, inl, inr, ℕ, zero, suc, ◌+◌, ◌-◌, ◌<◌, ◌≤◌, Bool, List, [], ◌∷◌, ◌++◌, length, slice_get, Option, Some, None, refl, ap, subst, arith}
+use Rattle.std.proofs.Common.{◌≡◌, ◌≢◌, ◌⊎◌, inl, inr, ℕ, zero, suc, ◌+◌, ◌-◌, ◌<◌, ◌≤◌, Bool, List, [], ◌∷◌, ◌++◌, length, slice_get, Option, Some, None, IsSome, All, refl, sym, ap, subst, arith}
 use Rattle.std.specs.List.{find}
 use Rattle.std.specs.Option.{is_some}
 use Rattle.std.proofs.Math.Nat.{mod-lt}
 use Rattle.std.proofs.lemmas.Bool.{cases_lt}
+use Rattle.std.proofs.lemmas.List.Elements.{All-nil, All-cons}
 use Rattle.otadata.specs.declared.entry.Entry.{Entry}
 use Rattle.otadata.specs.Choice.{active_of}
 use Rattle.partition_table.specs.declared.app.App.{App}
@@ -189,6 +190,20 @@ tried_are_placed layout start is =
     last : (row : Option Row) → (layout.test ≡ None → row ≡ None) → Each (λ app. row_for layout app ≢ None) (tests row)
     last None same = tt
     last (Some row) same = (λ none. absurd (let is = same none in cc), tt)
+
+-- so each of them has a partition
+pub tried_have_rows : (layout : Places) (start : App) (apps : List App) → IsStart layout start → apps ≡ candidates layout start
+    → All (λ app. IsSome (row_for layout app)) apps
+tried_have_rows layout start apps is same =
+    subst (All (λ app. IsSome (row_for layout app))) (sym same) (by (candidates layout start) (tried_are_placed layout start is))
+  where
+    some : (row : Option Row) → row ≢ None → IsSome row
+    some None found = absurd (found refl)
+    some (Some row) found = refl
+
+    by : (xs : List App) → Each (λ app. row_for layout app ≢ None) xs → All (λ app. IsSome (row_for layout app)) xs
+    by [] all = All-nil (λ app. IsSome (row_for layout app))
+    by (x ∷ xs) all = All-cons (λ app. IsSome (row_for layout app)) x xs (some (row_for layout x) all.0) (by xs all.1)
 
 -- the first whole one is the first that has an image
 find_held : (layout : Places) (whole : App → Bool) (images : App → Option (List ℕ)) → AreTold layout whole images

@@ -1,7 +1,8 @@
 //! The order in which a bootloader tries the applications: from the one that the OTA data name down
 //! to slot 0, then factory, then up through the other slots, then the test application.
 
-ghost use Rattle.std.specs.Prelude.{◌≡◌, ◌+◌, ◌-◌, ◌<◌, ◌≤◌, ◌++◌, ◌∷◌, [], List, length};
+ghost use Rattle.std.specs.Prelude.{◌≡◌, ◌+◌, ◌-◌, ◌<◌, ◌≤◌, ◌++◌, ◌∷◌, [], All, IsSome, List, length};
+ghost use Rattle.partition_table.specs.Layout.{row_for};
 ghost use Rattle.partition_table.specs.declared.app.App.TheVariants.{Factory, Ota, Test};
 ghost use Rattle.boot_select.specs.Choice.{named_of};
 ghost use Rattle.std.specs.List.{find};
@@ -12,9 +13,10 @@ use arrayvec::ArrayVec;
 use otadata::Entry;
 use partition_table::{App, Layout, Row};
 
-/// The applications in the order in which a bootloader tries them.
+/// The applications in the order in which a bootloader tries them. Each has a partition in the layout.
 pub fn order(layout: &Layout, e0: &Entry, e1: &Entry) -> ArrayVec<App, 18>
     ensures exact { result.items ≡ candidates layout.now (named_of layout.now e0.now e1.now) }
+    ensures placed { All (λ app. IsSome (row_for layout.now app)) result.items }
 {
     order_from(layout, named(layout, e0, e1))
 }
