@@ -5,3 +5,4 @@ pub mod ReadLemmas
 pub mod FrameLemmas
 pub mod WritesLemmas
 pub mod CrashLemmas
+pub mod StartedLemmas
