@@ -2,6 +2,7 @@
 use Rattle.std.specs.Prelude.{◌≡◌, ℕ, List, [], ◌∷◌, ◌++◌, Option, Some, None, IfSome, Result, Ok, Err, IfErr, OnOk}
 use Rattle.std.proofs.Common.{refl, sym, ap, ◌∙◌, subst, inl, inr}
 use Rattle.std.proofs.lemmas.List.{append_assoc}
+use Rattle.std.proofs.lemmas.Result.{MatchResult-from_both}
 use Rattle.nor_device.specs.declared.step.Step.{Step}
 use Rattle.nor_device.specs.declared.nor.StepEnd.{StepEnd}
 use Rattle.nor_device.specs.declared.nor.StepEnd.TheVariants as ends
@@ -14,7 +15,7 @@ use Rattle.nor_device.proofs.FlashLaws.{after_steps_append}
 use Rattle.crash_images.specs.Crash.{IsAfterAll, IsLeftOf}
 use Rattle.crash_images.proofs.LeftOf.{after_none, after_both, left_of_front}
 use Rattle.crash_images.proofs.LeftLaws.{left_end, left_torn, left_back}
-use Rattle.boot_run.specs.Made.{count_after, EachDone, AreMade, IsRefusedAfter, StopsAt, AreMissed}
+use Rattle.boot_run.specs.Made.{count_after, EachDone, AreMade, IsRefusedAfter, StopsAt, AreMissed, AreMadeBy}
 
 -- the numbers of two lists of steps
 pub count_append : (count : ℕ) (front back : List Step)
@@ -262,3 +263,24 @@ module _ {S : Type 0} (may_end : S → ℕ → StepEnd → Type 0)
       by [] r = refused [] r
       by (step ∷ rest) (inl r) = refused (step ∷ rest) r
       by (step ∷ rest) (inr b) = broken step rest old b.left
+
+  -- both answers, where setting, number and bytes are told of the device as it was by then
+  pub made_by : {T : Type 0} (set mid_set : S) (steps : List Step) (count mid now : ℕ)
+      (old told new : Option (List ℕ)) (r : Result T NorFault) → mid_set ≡ set → mid ≡ count → told ≡ old
+      → OnOk r (Made mid_set steps mid now told new) → IfErr r (Missed mid_set steps mid now told new)
+      → AreMadeBy may_end may_tear may_refuse must_refuse set steps count now old new r
+  made_by set mid_set steps count mid now old told new r same_set same_count same_bytes made missed =
+      subst (λ s. AreMadeBy may_end may_tear may_refuse must_refuse s steps count now old new r) same_set
+      (subst (λ c. AreMadeBy may_end may_tear may_refuse must_refuse mid_set steps c now old new r) same_count
+      (subst (λ o. AreMadeBy may_end may_tear may_refuse must_refuse mid_set steps mid now o new r) same_bytes
+      (MatchResult-from_both r (λ x. Made mid_set steps mid now told new)
+      (Missed mid_set steps mid now told new) made missed)))
+
+  -- whatever the answer, the bytes are left at some moment of the steps
+  pub made_by_left : {T : Type 0} (set : S) (steps : List Step) (count now : ℕ)
+      (old new : Option (List ℕ)) (r : Result T NorFault)
+      → AreMadeBy may_end may_tear may_refuse must_refuse set steps count now old new r
+      → IsLeftOf steps old new
+  made_by_left set steps count now old new (Ok x) made = made_left set steps count now old new made
+  made_by_left set steps count now old new (Err why) missed =
+      missed_left set steps count now old new why missed

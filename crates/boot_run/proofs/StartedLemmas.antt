@@ -1,16 +1,18 @@
 -- What a boot starts is what boots of the flash before it.
-use Rattle.std.proofs.Common.{◌≡◌, ◌≤◌, ◌+◌, ◌*◌, ℕ, zero, suc, List, [], ◌∷◌, ◌++◌, length, Option, Some, None, IfSome, refl, sym, ap, ◌∙◌, subst, arith}
+use Rattle.std.proofs.Common.{◌≡◌, ◌≤◌, ◌+◌, ◌*◌, ℕ, zero, suc, List, [], ◌∷◌, ◌++◌, length, Option, Some, None, IfSome, Result, Ok, Err, IfOk, OnErr, refl, sym, ap, ◌∙◌, subst, arith}
 use Rattle.std.proofs.lemmas.List.{length-append}
+use Rattle.nor_device.specs.declared.step.Step.{Step}
+use Rattle.nor_device.specs.declared.nor.NorFault.{NorFault}
 use Rattle.nor_device.specs.Flash.{after_steps}
-use Rattle.crash_images.specs.Crash.{IsAfterAll}
-use Rattle.crash_images.proofs.LeftLaws.{left_end}
+use Rattle.crash_images.specs.Crash.{IsAfterAll, IsLeftOf, LeftAfter}
+use Rattle.crash_images.proofs.LeftLaws.{left_begin, left_end}
 use Rattle.partition_table.specs.declared.app.App.{App}
 use Rattle.partition_table.specs.Layout.{Places, IsPlaced}
 use Rattle.otadata.specs.declared.entry.Entry.{Entry}
 use Rattle.otadata.specs.Entry.{IsStored}
 use Rattle.boot_select.specs.Settled.{sectors}
 use Rattle.boot_select.specs.Candidates.{candidates}
-use Rattle.boot_select.specs.Boots.{first_held, images_in, names}
+use Rattle.boot_select.specs.Boots.{entries_in, first_held, images_in, names}
 use Rattle.image_verify.specs.declared.info.ImageInfo.{ImageInfo}
 use Rattle.image_verify.specs.Held.{held}
 use Rattle.rollback.specs.declared.rewrite.Rewrite.{Rewrite}
@@ -19,10 +21,13 @@ use Rattle.rollback.specs.Boot.{boot_writes}
 use Rattle.rollback.specs.Boots.{boots}
 use Rattle.boot_run.specs.declared.booted.Booted.{Booted}
 use Rattle.boot_run.specs.Rewriting.{rewrite, rewrites}
+use Rattle.boot_run.specs.Read.{OfEntries}
 use Rattle.boot_run.specs.Verified.{Starts, IsFirst}
+use Rattle.boot_run.specs.Crashed.{IsLeftByVerdicts}
 use Rattle.boot_run.specs.Booted.{IsBoot}
 use Rattle.boot_run.proofs.FrameLemmas.{AreShort, left_images}
-use Rattle.boot_run.proofs.WritesLemmas.{boot_are, boot_short}
+use Rattle.boot_run.proofs.WritesLemmas.{boot_are, boot_short, boots_same, writes_same}
+use Rattle.boot_run.proofs.CrashLemmas.{boot_restated, left_verdicts}
 
 -- the answer of a boot, by the application that was started
 abbrev pub booted_of : ℕ → Option (App × ImageInfo) → Option Booted
@@ -74,3 +79,74 @@ told_boot layout size otadata es made writes steps (Some flash) mid started plac
     let here = subst (λ h. IsFirst h (candidates layout (names layout (written writes es))) started) images on in
     let named = subst (λ ws. IsFirst (images_in held layout flash) (candidates layout (names layout (written ws es))) started) is here in
     first_is_boot layout (images_in held layout flash) es steps started named
+
+-- ---- by the entries that were read
+
+-- what boots by one pair of entries boots by the same ones
+is_boot_same : (layout : Places) (images : App → Option (List ℕ)) (es gs : ℕ → Entry) (booted : Option Booted)
+    → boots layout images es ≡ boots layout images gs → IsBoot layout images es booted → IsBoot layout images gs booted
+is_boot_same layout images es gs None same is = sym same ∙ is
+is_boot_same layout images es gs (Some booted) same is =
+    record { image = is.image; is = sym same ∙ is.is; told = is.told }
+
+-- what boots by the entries that were read is what boots of the flash
+pub read_boots : (layout : Places) (e0 e1 : Entry) (old mid : Option (List ℕ)) (r : Result (Option Booted) NorFault)
+    → mid ≡ old → IfSome old (λ flash. e0 ≡ entries_in layout flash 0) → IfSome old (λ flash. e1 ≡ entries_in layout flash 1)
+    → IfOk r (λ booted. IfSome mid (λ flash. IsBoot layout (images_in held layout flash) (sectors e0 e1) booted))
+    → IfOk r (λ booted. IfSome old (λ flash. IsBoot layout (images_in held layout flash) (entries_in layout flash) booted))
+read_boots layout e0 e1 old mid (Err why) same first second boots = boots
+read_boots layout e0 e1 None mid (Ok booted) same first second boots = tt
+read_boots layout e0 e1 (Some flash) mid (Ok booted) same first second boots =
+    is_boot_same layout (images_in held layout flash) (sectors e0 e1) (entries_in layout flash) booted
+    (boots_same layout (images_in held layout flash) (sectors e0 e1) (entries_in layout flash) first second)
+    (subst (λ (m : Option (List ℕ)). IfSome m (λ f. IsBoot layout (images_in held layout f) (sectors e0 e1) booted)) same boots)
+
+-- what holds of the rewrites by the entries that were read
+pub read_steps : (layout : Places) (e0 e1 : Entry) (told : Option (List ℕ)) (Q : List Step → Type 0)
+    → IfSome told (λ flash. e0 ≡ entries_in layout flash 0) → IfSome told (λ flash. e1 ≡ entries_in layout flash 1)
+    → Q (rewrites layout.otadata (boot_writes (sectors e0 e1)))
+    → OfEntries layout told (λ es. Q (rewrites layout.otadata (boot_writes es)))
+read_steps layout e0 e1 None Q first second holds = record { entries = sectors e0 e1; read = tt; holds = holds }
+read_steps layout e0 e1 (Some flash) Q first second holds = record {
+  entries = entries_in layout flash;
+  read = refl;
+  holds = subst (λ ws. Q (rewrites layout.otadata ws))
+      (writes_same (sectors e0 e1) (entries_in layout flash) first second) holds;
+}
+
+-- what holds of any entries
+pub any_entries : (layout : Places) (told : Option (List ℕ)) (P : (ℕ → Entry) → Type 0) → ((es : ℕ → Entry) → P es)
+    → OfEntries layout told P
+any_entries layout None P holds =
+    let blank : Entry = record { seq = 0; label = []; state = 0; crc = 0 } in
+    record { entries = λ y. blank; read = tt; holds = holds (λ y. blank) }
+any_entries layout (Some flash) P holds =
+    record { entries = entries_in layout flash; read = refl; holds = holds (entries_in layout flash) }
+
+-- what is left of a boot that was broken off
+pub read_crash : (layout : Places) (size : ℕ) (e0 e1 : Entry) (old new : Option (List ℕ)) → IsPlaced layout size
+    → IfSome old (λ flash. e0 ≡ entries_in layout flash 0) → IfSome old (λ flash. e1 ≡ entries_in layout flash 1)
+    → IsLeftOf (rewrites layout.otadata (boot_writes (sectors e0 e1))) old new
+    → IsLeftByVerdicts layout (λ flash. boot_writes (entries_in layout flash)) old new
+read_crash layout size e0 e1 None new placed first second left = tt
+read_crash layout size e0 e1 (Some flash) new placed first second left =
+    let writes = boot_writes (entries_in layout flash) in
+    (left.0, left.1, left_verdicts layout size flash left.0 writes placed
+    (boot_restated layout size flash writes placed (boot_are (entries_in layout flash)))
+    (subst (λ ws. LeftAfter flash (rewrites layout.otadata ws) left.0)
+    (writes_same (sectors e0 e1) (entries_in layout flash) first second) left.2))
+
+-- and of one that did not begin
+pub unread_crash : (layout : Places) (size : ℕ) (old new : Option (List ℕ)) → IsPlaced layout size → new ≡ old
+    → IsLeftByVerdicts layout (λ flash. boot_writes (entries_in layout flash)) old new
+unread_crash layout size None new placed same = tt
+unread_crash layout size (Some flash) new placed same =
+    let writes = boot_writes (entries_in layout flash) in
+    (flash, same, left_verdicts layout size flash flash writes placed
+    (boot_restated layout size flash writes placed (boot_are (entries_in layout flash)))
+    (left_begin flash (rewrites layout.otadata writes)))
+
+-- what holds whatever the answer
+pub on_err_any : {T E P : Type 0} (r : Result T E) → P → OnErr r P
+on_err_any (Ok x) holds = tt
+on_err_any (Err why) holds = holds

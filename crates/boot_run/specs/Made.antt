@@ -1,6 +1,6 @@
 -- What making a list of steps on a device says: all were made whole, or the first ones were, and then
 -- one was not begun or was broken off.
-use Rattle.std.specs.Prelude.{◌≡◌, ◌⊎◌, ℕ, List, [], ◌∷◌, ◌++◌, Option, Some, IfSome}
+use Rattle.std.specs.Prelude.{◌≡◌, ◌⊎◌, ℕ, List, [], ◌∷◌, ◌++◌, Option, Some, IfSome, Result, MatchResult}
 use Rattle.nor_device.specs.declared.step.Step.{Step}
 use Rattle.nor_device.specs.declared.nor.StepEnd.{StepEnd}
 use Rattle.nor_device.specs.declared.nor.StepEnd.TheVariants as ends
@@ -70,3 +70,10 @@ module _ {S : Type 0} (may_end : S → ℕ → StepEnd → Type 0)
     pub split : steps ≡ made ++ rest
     pub each : EachDone setting count made
     pub stops : StopsAt setting made rest count now old new why
+
+  -- all of the steps were made, or the answer says why they were missed
+  abbrev pub AreMadeBy : {T : Type 0} → S → List Step → ℕ → ℕ → Option (List ℕ) → Option (List ℕ)
+      → Result T NorFault → Type 0
+  AreMadeBy setting steps count now old new answer =
+      MatchResult answer (λ _. AreMade setting steps count now old new)
+      (AreMissed setting steps count now old new)

@@ -13,3 +13,14 @@ pub struct Booted {
     /// How many steps the rewrites before it were.
     pub steps: u32,
 }
+
+/// Why a boot has started no application.
+#[derive(Clone, Copy, Debug, PartialEq, Eq)]
+pub enum BootFault {
+    /// No application is whole.
+    NoApp,
+    /// The device failed, and counted it.
+    Device,
+    /// The power is off.
+    Cut,
+}

@@ -1,21 +1,24 @@
 //! A boot: entries are rewritten, and then the first application is started whose image is whole.
 
-ghost use Rattle.std.specs.Prelude.{◌≡◌, ◌<◌, ◌^◌, All, false, None, IsSome, IfSome, OnOk, IfOk, IfErr, length};
+ghost use Rattle.std.specs.Prelude.{◌≡◌, ◌<◌, ◌^◌, All, false, None, IfSome, OnOk, OnErr, IfOk, IfErr, length};
 ghost use Rattle.nor_device.specs.Nor.{HasCause, IsIdleAsBefore, KeepsSetting, KeepsSteps};
 ghost use Rattle.partition_table.specs.Layout.{IsPlaced};
 ghost use Rattle.otadata.specs.Entry.{IsStored};
 ghost use Rattle.boot_select.specs.Settled.{sectors};
-ghost use Rattle.boot_select.specs.Boots.{images_in, names};
+ghost use Rattle.boot_select.specs.Boots.{entries_in, images_in, names};
 ghost use Rattle.boot_select.specs.Candidates.{candidates};
 ghost use Rattle.rollback.specs.Rewrite.{changed, written};
 ghost use Rattle.rollback.specs.Boot.{boot_writes};
 ghost use Rattle.image_verify.specs.Held.{held};
-ghost use Rattle.boot_run.specs.Made.{AreMade, AreMissed};
+ghost use Rattle.boot_run.specs.Made.{AreMade, AreMadeBy, AreMissed};
 ghost use Rattle.boot_run.specs.Rewriting.{rewrites};
+ghost use Rattle.boot_run.specs.Read.{OfEntries};
 ghost use Rattle.boot_run.specs.Verified.{IsFirst};
-ghost use Rattle.boot_run.specs.Booted.{IsBoot};
+ghost use Rattle.boot_run.specs.Crashed.{IsLeftByVerdicts, StillBoots};
+ghost use Rattle.boot_run.specs.Booted.{CountsSteps, IsBoot, boot_answer};
 
-use crate::booted::Booted;
+use crate::booted::{BootFault, Booted};
+use crate::entries::read_entries;
 use crate::start::first_on;
 use crate::write::write_all;
 use boot_select::order;
@@ -24,6 +27,70 @@ use nor_device::{Nor, NorFault};
 use otadata::Entry;
 use partition_table::{App, Layout};
 use rollback::{Rewrite, boot_writes};
+
+/// Boots a device once: makes the rewrites of its entries, each an erase and one program, and gives the
+/// first application whose image is whole.
+pub fn boot<D: Nor>(device: &mut D, layout: &Layout) -> Result<Booted, BootFault>
+    requires idle { D.running device.old ≡ None }
+    requires placed { IsPlaced layout.now (D.size device.old) }
+    requires small { D.size device.old < 2 ^ 32 }
+    ensures idle { D.running device.new ≡ None }
+    ensures setting { KeepsSetting D.size D.setting device.old device.new }
+    ensures cause { HasCause
+        (D.faults device.old) (D.faults device.new) (D.off device.new) (boot_answer result) }
+    ensures stopped { OnOk (boot_answer result)
+        (¬ D.must_refuse (D.setting device.old) (D.steps device.old)) }
+    ensures steps { OfEntries layout.now (D.bytes device.old) (λ entries.
+        let steps = rewrites layout.now.otadata (boot_writes entries) in
+        AreMadeBy D.may_end D.may_tear D.may_refuse D.must_refuse (D.setting device.old) steps
+        (D.steps device.old) (D.steps device.new) (D.bytes device.old) (D.bytes device.new)
+        (boot_answer result)
+        × CountsSteps steps (boot_answer result)) }
+    ensures boots { IfOk (boot_answer result) (λ booted. IfSome (D.bytes device.old) (λ flash.
+        IsBoot layout.now (images_in held layout.now flash) (entries_in layout.now flash) booted)) }
+    ensures crash { OnErr (boot_answer result) (IsLeftByVerdicts layout.now
+        (λ flash. boot_writes (entries_in layout.now flash)) (D.bytes device.old) (D.bytes device.new)) }
+    ensures still { StillBoots layout.now (D.bytes device.old) (D.bytes device.new) }
+{
+    booted(boot_on(device, layout))
+}
+
+/// The answer of a boot.
+fn booted(found: Result<Option<Booted>, NorFault>) -> Result<Booted, BootFault>
+    ensures exact { boot_answer result ≡ found }
+{
+    match found {
+        Ok(Some(booted)) => Ok(booted),
+        Ok(None) => Err(BootFault::NoApp),
+        Err(NorFault::Failed) => Err(BootFault::Device),
+        Err(NorFault::Off) => Err(BootFault::Cut),
+    }
+}
+
+/// A boot; none where no application is whole.
+fn boot_on<D: Nor>(device: &mut D, layout: &Layout) -> Result<Option<Booted>, NorFault>
+    requires idle { D.running device.old ≡ None }
+    requires placed { IsPlaced layout.now (D.size device.old) }
+    requires small { D.size device.old < 2 ^ 32 }
+    ensures idle { D.running device.new ≡ None }
+    ensures setting { KeepsSetting D.size D.setting device.old device.new }
+    ensures cause { HasCause
+        (D.faults device.old) (D.faults device.new) (D.off device.new) result }
+    ensures stopped { OnOk result (¬ D.must_refuse (D.setting device.old) (D.steps device.old)) }
+    ensures steps { OfEntries layout.now (D.bytes device.old) (λ entries.
+        let steps = rewrites layout.now.otadata (boot_writes entries) in
+        AreMadeBy D.may_end D.may_tear D.may_refuse D.must_refuse (D.setting device.old) steps
+        (D.steps device.old) (D.steps device.new) (D.bytes device.old) (D.bytes device.new) result
+        × CountsSteps steps result) }
+    ensures boots { IfOk result (λ booted. IfSome (D.bytes device.old) (λ flash.
+        IsBoot layout.now (images_in held layout.now flash) (entries_in layout.now flash) booted)) }
+    ensures crash { OnErr result (IsLeftByVerdicts layout.now
+        (λ flash. boot_writes (entries_in layout.now flash)) (D.bytes device.old) (D.bytes device.new)) }
+    ensures still { StillBoots layout.now (D.bytes device.old) (D.bytes device.new) }
+{
+    let (first, second) = read_entries(device, layout)?;
+    boot_by(device, layout, first, second)
+}
 
 /// A boot of a device whose OTA data have these entries; none where no application is whole.
 fn boot_by<D: Nor>(

@@ -1,7 +1,7 @@
 use Rattle.std.proofs.Common.{◌∙◌, sym}
 use Rattle.boot_select.specs.Settled.{sectors}
 use Rattle.boot_run.proofs.WritesLemmas.{written_more, written_all}
-use Rattle.boot_run.proofs.boot.after.Goals as goal
+use Rattle.boot_run.proofs.booting.after.Goals as goal
 
 -- one rewrite more is made
 pub loop-write-preserved : goal.loop-write-preserved

@@ -1,7 +1,7 @@
 use Rattle.std.proofs.Common.{◌≡◌, drop}
 use Rattle.boot_select.specs.Settled.{sectors}
 use Rattle.rollback.specs.Rewrite.{written}
-use Rattle.boot_run.proofs.boot.after.Given as goal
+use Rattle.boot_run.proofs.booting.after.Given as goal
 
 -- the rewrites that are left lead to the same entries
 abbrev pub invariant-loop-write : goal.invariant-loop-write

@@ -11,7 +11,7 @@ use Rattle.boot_run.specs.Rewriting.{rewrites}
 use Rattle.boot_run.specs.Booted.{IsBoot}
 use Rattle.boot_run.proofs.WritesLemmas.{boot_are, boot_two}
 use Rattle.boot_run.proofs.StartedLemmas.{booted_of, told_boot, stored_short, length-rewrites}
-use Rattle.boot_run.proofs.boot.boot_by.Goals as goal
+use Rattle.boot_run.proofs.booting.boot_by.Goals as goal
 
 -- each rewrite is of one of two sectors
 pub write_all-requires-clause-two : goal.write_all-requires-clause-two
