@@ -22,7 +22,7 @@ use Rattle.image_verify.specs.Held.{held}
 use Rattle.boot_run.specs.Rewriting.{rewrite, rewrites}
 use Rattle.boot_run.specs.Crashed.{IsRestated, LeavesVerdict, LeavesVerdicts, IsLeftByVerdicts, StillBoots}
 use Rattle.boot_run.proofs.FrameLemmas.{AreShort, left_images, left_other}
-use Rattle.boot_run.proofs.WritesLemmas.{AreBoot, boot_are, boot_short}
+use Rattle.boot_run.proofs.WritesLemmas.{AreRewrites, boot_are, boot_short}
 
 -- the label of an entry of a flash is no longer than an entry's
 pub label_short : (layout : Places) (flash : List ℕ) (y : ℕ) → length (entries_in layout flash y).label ≤ 20
@@ -63,7 +63,7 @@ AreRestated layout flash (write ∷ writes) =
 
 -- so does each rewrite of a boot
 pub boot_restated : (layout : Places) (size : ℕ) (flash : List ℕ) (writes : List Rewrite) → IsPlaced layout size
-    → AreBoot (entries_in layout flash) writes → AreRestated layout flash writes
+    → AreRewrites (entries_in layout flash) writes → AreRestated layout flash writes
 boot_restated layout size flash [] placed are = tt
 boot_restated layout size flash (w ∷ []) placed are = (are, tt)
 boot_restated layout size flash (w ∷ v ∷ []) placed are =

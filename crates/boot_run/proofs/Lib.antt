@@ -6,3 +6,4 @@ pub mod FrameLemmas
 pub mod WritesLemmas
 pub mod CrashLemmas
 pub mod StartedLemmas
+pub mod VerdictLemmas

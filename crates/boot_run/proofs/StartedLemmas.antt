@@ -26,7 +26,7 @@ use Rattle.boot_run.specs.Verified.{Starts, IsFirst}
 use Rattle.boot_run.specs.Crashed.{IsLeftByVerdicts}
 use Rattle.boot_run.specs.Booted.{IsBoot}
 use Rattle.boot_run.proofs.FrameLemmas.{AreShort, left_images}
-use Rattle.boot_run.proofs.WritesLemmas.{boot_are, boot_short, boots_same, writes_same}
+use Rattle.boot_run.proofs.WritesLemmas.{AreRewrites, boot_are, boot_short, boots_same, writes_same}
 use Rattle.boot_run.proofs.CrashLemmas.{boot_restated, left_verdicts}
 
 -- the answer of a boot, by the application that was started
@@ -42,15 +42,6 @@ pub first_is_boot : (layout : Places) (images : App → Option (List ℕ)) (es :
 unfolding boots
 first_is_boot layout images es steps None first = first
 first_is_boot layout images es steps (Some started) first = first
-
--- the rewrites of a boot of entries that were read are short
-pub stored_short : (e0 e1 : Entry) → IsStored e0 → IsStored e1 → AreShort (boot_writes (sectors e0 e1))
-stored_short e0 e1 first second =
-    boot_short (sectors e0 e1) (λ y two. by y) (boot_writes (sectors e0 e1)) (boot_are (sectors e0 e1))
-  where
-    by : (y : ℕ) → length (sectors e0 e1 y).label ≤ 20
-    by zero = omega (arith, first.sized.label)
-    by (suc n) = omega (arith, second.sized.label)
 
 -- each rewrite is two steps
 pub length-rewrites : (otadata : ℕ) (writes : List Rewrite) → length (rewrites otadata writes) ≡ 2 * length writes
@@ -123,28 +114,59 @@ any_entries layout None P holds =
 any_entries layout (Some flash) P holds =
     record { entries = entries_in layout flash; read = refl; holds = holds (entries_in layout flash) }
 
--- what is left of a boot that was broken off
-pub read_crash : (layout : Places) (size : ℕ) (e0 e1 : Entry) (old new : Option (List ℕ)) → IsPlaced layout size
-    → IfSome old (λ flash. e0 ≡ entries_in layout flash 0) → IfSome old (λ flash. e1 ≡ entries_in layout flash 1)
-    → IsLeftOf (rewrites layout.otadata (boot_writes (sectors e0 e1))) old new
-    → IsLeftByVerdicts layout (λ flash. boot_writes (entries_in layout flash)) old new
-read_crash layout size e0 e1 None new placed first second left = tt
-read_crash layout size e0 e1 (Some flash) new placed first second left =
-    let writes = boot_writes (entries_in layout flash) in
-    (left.0, left.1, left_verdicts layout size flash left.0 writes placed
-    (boot_restated layout size flash writes placed (boot_are (entries_in layout flash)))
-    (subst (λ ws. LeftAfter flash (rewrites layout.otadata ws) left.0)
-    (writes_same (sectors e0 e1) (entries_in layout flash) first second) left.2))
+-- what holds of the two entries that were read
+pub read_pair : (layout : Places) (e0 e1 : Entry) (told : Option (List ℕ)) (R : Entry → Entry → Type 0)
+    → IfSome told (λ flash. e0 ≡ entries_in layout flash 0) → IfSome told (λ flash. e1 ≡ entries_in layout flash 1)
+    → R e0 e1 → OfEntries layout told (λ es. R (es 0) (es 1))
+read_pair layout e0 e1 None R first second holds = record { entries = sectors e0 e1; read = tt; holds = holds }
+read_pair layout e0 e1 (Some flash) R first second holds = record {
+  entries = entries_in layout flash;
+  read = refl;
+  holds = subst (λ e. R e (entries_in layout flash 1)) first (subst (λ e. R e0 e) second holds);
+}
 
--- and of one that did not begin
-pub unread_crash : (layout : Places) (size : ℕ) (old new : Option (List ℕ)) → IsPlaced layout size → new ≡ old
-    → IsLeftByVerdicts layout (λ flash. boot_writes (entries_in layout flash)) old new
-unread_crash layout size None new placed same = tt
-unread_crash layout size (Some flash) new placed same =
-    let writes = boot_writes (entries_in layout flash) in
-    (flash, same, left_verdicts layout size flash flash writes placed
-    (boot_restated layout size flash writes placed (boot_are (entries_in layout flash)))
-    (left_begin flash (rewrites layout.otadata writes)))
+-- rewrites by entries: of the entries as they stand, and only those of the two sectors count
+pub record AreBy (writes : (ℕ → Entry) → List Rewrite) : Type 0 where
+  pub are : (es : ℕ → Entry) → AreRewrites es (writes es)
+  pub same : (es gs : ℕ → Entry) → es 0 ≡ gs 0 → es 1 ≡ gs 1 → writes es ≡ writes gs
+
+-- those of a boot
+pub boot_by : AreBy boot_writes
+boot_by = record { are = boot_are; same = writes_same }
+
+-- what is left of rewrites that were broken off
+pub read_crash : (layout : Places) (size : ℕ) (writes : (ℕ → Entry) → List Rewrite) (e0 e1 : Entry)
+    (old new : Option (List ℕ)) → IsPlaced layout size → AreBy writes
+    → IfSome old (λ flash. e0 ≡ entries_in layout flash 0) → IfSome old (λ flash. e1 ≡ entries_in layout flash 1)
+    → IsLeftOf (rewrites layout.otadata (writes (sectors e0 e1))) old new
+    → IsLeftByVerdicts layout (λ flash. writes (entries_in layout flash)) old new
+read_crash layout size writes e0 e1 None new placed by first second left = tt
+read_crash layout size writes e0 e1 (Some flash) new placed by first second left =
+    let es = entries_in layout flash in
+    (left.0, left.1, left_verdicts layout size flash left.0 (writes es) placed
+    (boot_restated layout size flash (writes es) placed (by.are es))
+    (subst (λ ws. LeftAfter flash (rewrites layout.otadata ws) left.0) (by.same (sectors e0 e1) es first second) left.2))
+
+-- and of rewrites that did not begin
+pub unread_crash : (layout : Places) (size : ℕ) (writes : (ℕ → Entry) → List Rewrite) (old new : Option (List ℕ))
+    → IsPlaced layout size → AreBy writes → new ≡ old
+    → IsLeftByVerdicts layout (λ flash. writes (entries_in layout flash)) old new
+unread_crash layout size writes None new placed by same = tt
+unread_crash layout size writes (Some flash) new placed by same =
+    let es = entries_in layout flash in
+    (flash, same, left_verdicts layout size flash flash (writes es) placed
+    (boot_restated layout size flash (writes es) placed (by.are es))
+    (left_begin flash (rewrites layout.otadata (writes es))))
+
+-- rewrites of entries that were read are short
+pub by_short : (writes : (ℕ → Entry) → List Rewrite) (e0 e1 : Entry) → AreBy writes → IsStored e0 → IsStored e1
+    → AreShort (writes (sectors e0 e1))
+by_short writes e0 e1 by first second =
+    boot_short (sectors e0 e1) (λ y two. at y) (writes (sectors e0 e1)) (by.are (sectors e0 e1))
+  where
+    at : (y : ℕ) → length (sectors e0 e1 y).label ≤ 20
+    at zero = omega (arith, first.sized.label)
+    at (suc n) = omega (arith, second.sized.label)
 
 -- what holds whatever the answer
 pub on_err_any : {T E P : Type 0} (r : Result T E) → P → OnErr r P

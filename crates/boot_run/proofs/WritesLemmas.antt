@@ -22,11 +22,11 @@ use Rattle.boot_run.specs.Crashed.{IsRestated}
 use Rattle.boot_run.proofs.FrameLemmas.{AreShort}
 
 -- at most two rewrites, of the entries as they stand, in different sectors
-abbrev pub AreBoot : (ℕ → Entry) → List Rewrite → Type 0
-AreBoot es [] = Unit {0}
-AreBoot es (w ∷ []) = IsRestated es w
-AreBoot es (w ∷ v ∷ []) = IsRestated es w × IsRestated es v × (v.sector ≡ other_of w.sector)
-AreBoot es (w ∷ v ∷ u ∷ ws) = ⊥
+abbrev pub AreRewrites : (ℕ → Entry) → List Rewrite → Type 0
+AreRewrites es [] = Unit {0}
+AreRewrites es (w ∷ []) = IsRestated es w
+AreRewrites es (w ∷ v ∷ []) = IsRestated es w × IsRestated es v × (v.sector ≡ other_of w.sector)
+AreRewrites es (w ∷ v ∷ u ∷ ws) = ⊥
 
 -- an entry in another state
 restates : (es : ℕ → Entry) (y state : ℕ) → y < 2 → IsRestated es (restated state y (es y))
@@ -64,7 +64,7 @@ gathers : (es : ℕ → Entry) (last : List Rewrite)
     → (((es 1).state == 1) ≡ true) ⊎ (((es 1).state == 1) ≡ false)
     → (last ≡ []) ⊎ (((((es 0).state == 1) ≡ false) × (last ≡ restated 1 0 (es 0) ∷ []))
     ⊎ ((((es 1).state == 1) ≡ false) × (last ≡ restated 1 1 (es 1) ∷ [])))
-    → AreBoot es (aborts es ++ last)
+    → AreRewrites es (aborts es ++ last)
 gathers es last (inl p) (inl q) (inl is) = rw (p, q, is)
     (restates es 0 4 (omega arith), restates es 1 4 (omega arith), refl)
 gathers es last (inl p) (inl q) (inr (inl is)) = absurd (let no = sym p ∙ is.0 in cc)
@@ -82,9 +82,9 @@ gathers es last (inr p) (inr q) (inr (inl is)) = rw (p, q, is.1) (restates es 0 
 gathers es last (inr p) (inr q) (inr (inr is)) = rw (p, q, is.1) (restates es 1 1 (omega arith))
 
 -- so are the rewrites of a boot
-pub boot_are : (es : ℕ → Entry) → AreBoot es (boot_writes es)
+pub boot_are : (es : ℕ → Entry) → AreRewrites es (boot_writes es)
 boot_are es =
-    subst (AreBoot es) (sym (boot_writes-parts es))
+    subst (AreRewrites es) (sym (boot_writes-parts es))
     (gathers es (begin (given_up (es 0)) (given_up (es 1))) (cases_Bool ((es 0).state == 1))
     (cases_Bool ((es 1).state == 1)) (begins es (active_of (given_up (es 0)) (given_up (es 1)))))
 
@@ -95,7 +95,7 @@ restated_label es write restated = ap (λ (w : Rewrite). w.entry.label) restated
 
 -- rewrites of short entries are short
 pub boot_short : (es : ℕ → Entry) → ((y : ℕ) → y < 2 → length (es y).label ≤ 20) → (writes : List Rewrite)
-    → AreBoot es writes → AreShort writes
+    → AreRewrites es writes → AreShort writes
 boot_short es short [] are = tt
 boot_short es short (w ∷ []) are =
     ((are.two, let same = ap length (restated_label es w are) in let less = short w.sector are.two in omega arith), tt)
@@ -105,7 +105,7 @@ boot_short es short (w ∷ v ∷ []) are =
 boot_short es short (w ∷ v ∷ u ∷ ws) are = absurd are
 
 -- each is of one of two sectors
-pub boot_two : (es : ℕ → Entry) (writes : List Rewrite) → AreBoot es writes → All (λ write. write.sector < 2) writes
+pub boot_two : (es : ℕ → Entry) (writes : List Rewrite) → AreRewrites es writes → All (λ write. write.sector < 2) writes
 boot_two es [] are = All-nil (λ (write : Rewrite). write.sector < 2)
 boot_two es (w ∷ []) are =
     All-cons (λ (write : Rewrite). write.sector < 2) w [] are.two (All-nil (λ (write : Rewrite). write.sector < 2))

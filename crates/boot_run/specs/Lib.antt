@@ -6,3 +6,4 @@ pub mod Read
 pub mod Verified
 pub mod Crashed
 pub mod Booted
+pub mod Verdict

@@ -3,10 +3,14 @@
 
 mod booted;
 mod booting;
+mod confirming;
 mod entries;
 mod start;
+mod told;
 mod verify;
 mod write;
 
 pub use booted::{BootFault, Booted};
 pub use booting::boot;
+pub use confirming::confirm;
+pub use told::{ConfirmFault, RejectFault, Told};

@@ -10,7 +10,7 @@ use Rattle.rollback.specs.Boot.{boot_writes}
 use Rattle.boot_run.specs.Rewriting.{rewrites}
 use Rattle.boot_run.specs.Booted.{IsBoot}
 use Rattle.boot_run.proofs.WritesLemmas.{boot_are, boot_two}
-use Rattle.boot_run.proofs.StartedLemmas.{booted_of, told_boot, stored_short, length-rewrites}
+use Rattle.boot_run.proofs.StartedLemmas.{booted_of, boot_by, by_short, told_boot, length-rewrites}
 use Rattle.boot_run.proofs.booting.boot_by.Goals as goal
 
 -- each rewrite is of one of two sectors
@@ -35,7 +35,7 @@ returns-in-None-clause-boots g c =
     let boots = told_boot c.args.layout.now _ _ es c.deref.result.now c.deref-2.result.now 0
     (n.bytes c.args.device.now) (n.bytes c.write_all.new.device) c.in_ok-started_after.field-0
     c.requires.placed (c.deref.ensures.0 ∙ exact) (c.deref-2.ensures.0 ∙ exact)
-    (stored_short c.args.e0 c.args.e1 c.requires.first c.requires.second)
+    (by_short boot_writes c.args.e0 c.args.e1 boot_by c.requires.first c.requires.second)
     (ap (λ (l : Places). l.otadata) c.layout.view_is) c.in_ok-write_all.ensures.made.bytes
     c.in_ok-started_after.ensures.first in
     subst (λ (started : Option (App × ImageInfo)). IfSome (n.bytes c.args.device.now) (λ flash.
@@ -51,7 +51,7 @@ returns-in-Some-clause-boots g c =
     let boots = told_boot c.args.layout.now _ _ es c.deref.result.now c.deref-2.result.now 0
     (n.bytes c.args.device.now) (n.bytes c.write_all.new.device) c.in_ok-started_after.field-0
     c.requires.placed (c.deref.ensures.0 ∙ exact) (c.deref-2.ensures.0 ∙ exact)
-    (stored_short c.args.e0 c.args.e1 c.requires.first c.requires.second)
+    (by_short boot_writes c.args.e0 c.args.e1 boot_by c.requires.first c.requires.second)
     (ap (λ (l : Places). l.otadata) c.layout.view_is) c.in_ok-write_all.ensures.made.bytes
     c.in_ok-started_after.ensures.first in
     subst (λ (started : Option (App × ImageInfo)). IfSome (n.bytes c.args.device.now) (λ flash.

@@ -8,7 +8,7 @@ use Rattle.boot_run.specs.Rewriting.{rewrites}
 use Rattle.boot_run.specs.Booted.{CountsSteps}
 use Rattle.boot_run.proofs.MadeLemmas.{made_by, made_by_left, missed_none}
 use Rattle.boot_run.proofs.CrashLemmas.{told_boots}
-use Rattle.boot_run.proofs.StartedLemmas.{any_entries, on_err_any, read_boots, read_crash, read_steps, stored_short, unread_crash}
+use Rattle.boot_run.proofs.StartedLemmas.{any_entries, boot_by, by_short, on_err_any, read_boots, read_crash, read_steps, unread_crash}
 use Rattle.boot_run.proofs.booting.boot_on.Goals as goal
 
 -- a read was refused before any step
@@ -28,7 +28,7 @@ pub returns-in_err-first-clause-crash : goal.returns-in_err-first-clause-crash
 returns-in_err-first-clause-crash g c =
     let n = g.D.Nor in
     let p = err_from_is_err_and c.from_residual.result c.from_residual.ensures.1 in
-    rw p.1 (unread_crash c.args.layout.now _ (n.bytes c.args.device.now) _ c.requires.placed
+    rw p.1 (unread_crash c.args.layout.now _ boot_writes (n.bytes c.args.device.now) _ c.requires.placed boot_by
     c.read_entries.ensures.same.bytes_same)
 
 -- the rewrites by the entries that were read
@@ -64,8 +64,8 @@ returns-clause-crash g c =
     let it = c.boot_by.ensures in
     let made = made_by n.may_end n.may_tear n.may_refuse n.must_refuse (n.setting c.args.device.now) _ _ _ _ _ _ _ _
     c.boot_by.result read.setting.setting_same read.setting.steps_same read.same.bytes_same it.made it.missed in
-    on_err_any c.boot_by.result (read_crash c.args.layout.now _ c.in_ok-first.first c.in_ok-first.second
-    (n.bytes c.args.device.now) (n.bytes c.boot_by.new.device) c.requires.placed c.in_ok-first.ensures.first
+    on_err_any c.boot_by.result (read_crash c.args.layout.now _ boot_writes c.in_ok-first.first c.in_ok-first.second
+    (n.bytes c.args.device.now) (n.bytes c.boot_by.new.device) c.requires.placed boot_by c.in_ok-first.ensures.first
     c.in_ok-first.ensures.second
     (made_by_left n.may_end n.may_tear n.may_refuse n.must_refuse _ _ _ _ _ _ c.boot_by.result made))
 
@@ -80,5 +80,5 @@ returns-clause-still g c =
     c.boot_by.result read.setting.setting_same read.setting.steps_same read.same.bytes_same it.made it.missed in
     told_boots c.args.layout.now _ (boot_writes (sectors e0 e1)) (n.bytes c.args.device.now)
     (n.bytes c.boot_by.new.device) c.requires.placed
-    (stored_short e0 e1 c.in_ok-first.ensures.stored.0 c.in_ok-first.ensures.stored.1)
+    (by_short boot_writes e0 e1 boot_by c.in_ok-first.ensures.stored.0 c.in_ok-first.ensures.stored.1)
     (made_by_left n.may_end n.may_tear n.may_refuse n.must_refuse _ _ _ _ _ _ c.boot_by.result made)
