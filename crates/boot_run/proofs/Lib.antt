@@ -7,3 +7,4 @@ pub mod WritesLemmas
 pub mod CrashLemmas
 pub mod StartedLemmas
 pub mod VerdictLemmas
+pub mod WholeLemmas

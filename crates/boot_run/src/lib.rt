@@ -8,6 +8,7 @@ mod entries;
 mod start;
 mod told;
 mod verify;
+mod whole;
 mod write;
 
 pub use booted::{BootFault, Booted};
