@@ -135,28 +135,42 @@ pub boot_by : AreBy boot_writes
 boot_by = record { are = boot_are; same = writes_same }
 
 -- what is left of rewrites that were broken off
+pub left_crash : (layout : Places) (size : ℕ) (writes : List ℕ → List Rewrite) (made : List Rewrite)
+    (old new : Option (List ℕ)) → IsPlaced layout size
+    → ((flash : List ℕ) → AreRewrites (entries_in layout flash) (writes flash))
+    → IfSome old (λ flash. made ≡ writes flash) → IsLeftOf (rewrites layout.otadata made) old new
+    → IsLeftByVerdicts layout writes old new
+left_crash layout size writes made None new placed are same left = tt
+left_crash layout size writes made (Some flash) new placed are same left =
+    (left.0, left.1, left_verdicts layout size flash left.0 (writes flash) placed
+    (boot_restated layout size flash (writes flash) placed (are flash))
+    (subst (λ ws. LeftAfter flash (rewrites layout.otadata ws) left.0) same left.2))
+
+-- and of rewrites that did not begin
+pub unread_crash : (layout : Places) (size : ℕ) (writes : List ℕ → List Rewrite) (old new : Option (List ℕ))
+    → IsPlaced layout size → ((flash : List ℕ) → AreRewrites (entries_in layout flash) (writes flash))
+    → new ≡ old → IsLeftByVerdicts layout writes old new
+unread_crash layout size writes None new placed are same = tt
+unread_crash layout size writes (Some flash) new placed are same =
+    (flash, same, left_verdicts layout size flash flash (writes flash) placed
+    (boot_restated layout size flash (writes flash) placed (are flash))
+    (left_begin flash (rewrites layout.otadata (writes flash))))
+
+-- of the rewrites by the entries that were read
 pub read_crash : (layout : Places) (size : ℕ) (writes : (ℕ → Entry) → List Rewrite) (e0 e1 : Entry)
     (old new : Option (List ℕ)) → IsPlaced layout size → AreBy writes
     → IfSome old (λ flash. e0 ≡ entries_in layout flash 0) → IfSome old (λ flash. e1 ≡ entries_in layout flash 1)
     → IsLeftOf (rewrites layout.otadata (writes (sectors e0 e1))) old new
     → IsLeftByVerdicts layout (λ flash. writes (entries_in layout flash)) old new
-read_crash layout size writes e0 e1 None new placed by first second left = tt
-read_crash layout size writes e0 e1 (Some flash) new placed by first second left =
-    let es = entries_in layout flash in
-    (left.0, left.1, left_verdicts layout size flash left.0 (writes es) placed
-    (boot_restated layout size flash (writes es) placed (by.are es))
-    (subst (λ ws. LeftAfter flash (rewrites layout.otadata ws) left.0) (by.same (sectors e0 e1) es first second) left.2))
-
--- and of rewrites that did not begin
-pub unread_crash : (layout : Places) (size : ℕ) (writes : (ℕ → Entry) → List Rewrite) (old new : Option (List ℕ))
-    → IsPlaced layout size → AreBy writes → new ≡ old
-    → IsLeftByVerdicts layout (λ flash. writes (entries_in layout flash)) old new
-unread_crash layout size writes None new placed by same = tt
-unread_crash layout size writes (Some flash) new placed by same =
-    let es = entries_in layout flash in
-    (flash, same, left_verdicts layout size flash flash (writes es) placed
-    (boot_restated layout size flash (writes es) placed (by.are es))
-    (left_begin flash (rewrites layout.otadata (writes es))))
+read_crash layout size writes e0 e1 old new placed by first second left =
+    left_crash layout size (λ flash. writes (entries_in layout flash)) (writes (sectors e0 e1)) old new placed
+    (λ flash. by.are (entries_in layout flash)) (same old first second) left
+  where
+    same : (told : Option (List ℕ)) → IfSome told (λ flash. e0 ≡ entries_in layout flash 0)
+        → IfSome told (λ flash. e1 ≡ entries_in layout flash 1)
+        → IfSome told (λ flash. writes (sectors e0 e1) ≡ writes (entries_in layout flash))
+    same None first second = tt
+    same (Some flash) first second = by.same (sectors e0 e1) (entries_in layout flash) first second
 
 -- rewrites of entries that were read are short
 pub by_short : (writes : (ℕ → Entry) → List Rewrite) (e0 e1 : Entry) → AreBy writes → IsStored e0 → IsStored e1

@@ -1,15 +1,16 @@
 -- What a confirmation and a rejection rewrite and answer.
-use Rattle.std.specs.Prelude.{◌≡◌, ℕ, List, [], ◌∷◌, length, Option, Some, None, Result, Ok, Err}
+use Rattle.std.specs.Prelude.{◌≡◌, ℕ, Bool, List, [], ◌∷◌, length, Option, Some, None, Result, Ok, Err}
 use Rattle.nor_device.specs.declared.nor.NorFault.{NorFault}
 use Rattle.nor_device.specs.declared.nor.NorFault.TheVariants.{Failed, Off}
 use Rattle.otadata.specs.declared.entry.Entry.{Entry}
 use Rattle.partition_table.specs.declared.app.App.{App}
 use Rattle.partition_table.specs.declared.app.App.TheVariants.{Ota}
+use Rattle.partition_table.specs.Layout.{Places}
 use Rattle.rollback.specs.declared.rewrite.Rewrite.{Rewrite}
 use Rattle.rollback.specs.declared.verdict.NoOtaApp.{NoOtaApp}
 use Rattle.rollback.specs.declared.verdict.RejectNo.{RejectNo}
 use Rattle.rollback.specs.declared.verdict.RejectNo.TheVariants as no
-use Rattle.rollback.specs.Verdict.{confirm_of}
+use Rattle.rollback.specs.Verdict.{confirm_of, reject_of}
 use Rattle.boot_run.specs.declared.told.Told.{Told}
 use Rattle.boot_run.specs.declared.told.ConfirmFault.{ConfirmFault}
 use Rattle.boot_run.specs.declared.told.ConfirmFault.TheVariants as confirm
@@ -31,6 +32,10 @@ just_one (Err why) = Err why
 -- the rewrites of a confirmation of these entries, or why there are none
 abbrev pub confirmation : (ℕ → Entry) → Result (List Rewrite) NoOtaApp
 confirmation entries = one_of (confirm_of (entries 0) (entries 1))
+
+-- the rewrites of a rejection, by which applications are whole, or why there are none
+abbrev pub rejection : Places → (App → Bool) → (ℕ → Entry) → Result (List Rewrite) RejectNo
+rejection layout whole entries = just_one (reject_of layout whole (entries 0) (entries 1))
 
 -- the rewrites that are made: none where there is a refusal
 abbrev pub writes_of : {E : Type 0} → Result (List Rewrite) E → List Rewrite

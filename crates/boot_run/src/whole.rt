@@ -22,6 +22,8 @@ pub(crate) fn whole_on<D: Nor>(device: &mut D, layout: &Layout) -> Result<[bool;
     requires small { D.size device.old < 2 ^ 32 }
     ensures told { IfOk result (λ whole. IfSome (D.bytes device.old) (λ flash.
         AreTold layout.now (is_whole whole) (images_in held layout.now flash))) }
+    ensures on { OnOk result (D.off device.new ≡ false) }
+    ensures some { OnOk result (0 < length layout.now.slots) }
     ensures allowed { IfErr result (D.may_refuse (D.setting device.old) (D.steps device.old)) }
     ensures same { IsIdleAsBefore D.bytes D.running device.old device.new }
     ensures setting { KeepsSteps D.size D.setting D.steps device.old device.new }

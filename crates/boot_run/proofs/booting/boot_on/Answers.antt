@@ -2,12 +2,14 @@ use Rattle.std.proofs.Common.{◌≡◌, List, ℕ, Err, Ok, OnOk, IfErr, rules,
 use Rattle.std.proofs.lemmas.Result.{err_from_is_err_and, on_err_weaker}
 use Rattle.nor_device.specs.declared.step.Step.{Step}
 use Rattle.boot_select.specs.Settled.{sectors}
+use Rattle.boot_select.specs.Boots.{entries_in}
 use Rattle.rollback.specs.Boot.{boot_writes}
 use Rattle.boot_run.specs.Made.{AreMadeBy}
 use Rattle.boot_run.specs.Rewriting.{rewrites}
 use Rattle.boot_run.specs.Booted.{CountsSteps}
 use Rattle.boot_run.proofs.MadeLemmas.{made_by, made_by_left, missed_none}
 use Rattle.boot_run.proofs.CrashLemmas.{told_boots}
+use Rattle.boot_run.proofs.WritesLemmas.{boot_are}
 use Rattle.boot_run.proofs.StartedLemmas.{any_entries, boot_by, by_short, on_err_any, read_boots, read_crash, read_steps, unread_crash}
 use Rattle.boot_run.proofs.booting.boot_on.Goals as goal
 
@@ -28,7 +30,8 @@ pub returns-in_err-first-clause-crash : goal.returns-in_err-first-clause-crash
 returns-in_err-first-clause-crash g c =
     let n = g.D.Nor in
     let p = err_from_is_err_and c.from_residual.result c.from_residual.ensures.1 in
-    rw p.1 (unread_crash c.args.layout.now _ boot_writes (n.bytes c.args.device.now) _ c.requires.placed boot_by
+    rw p.1 (unread_crash c.args.layout.now _ (λ flash. boot_writes (entries_in c.args.layout.now flash))
+    (n.bytes c.args.device.now) _ c.requires.placed (λ flash. boot_are (entries_in c.args.layout.now flash))
     c.read_entries.ensures.same.bytes_same)
 
 -- the rewrites by the entries that were read

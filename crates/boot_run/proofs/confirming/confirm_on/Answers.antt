@@ -3,6 +3,7 @@ use Rattle.std.proofs.lemmas.Result.{err_from_is_err_and}
 use Rattle.otadata.specs.declared.entry.Entry.{Entry}
 use Rattle.boot_select.specs.Choice.{named_of}
 use Rattle.boot_select.specs.Settled.{sectors}
+use Rattle.boot_select.specs.Boots.{entries_in}
 use Rattle.rollback.specs.Verdict.{confirm_of}
 use Rattle.boot_run.specs.Made.{AreMadeBy}
 use Rattle.boot_run.specs.Rewriting.{rewrites}
@@ -30,8 +31,8 @@ pub returns-in_err-first-clause-crash : goal.returns-in_err-first-clause-crash
 returns-in_err-first-clause-crash g c =
     let n = g.D.Nor in
     let p = err_from_is_err_and c.from_residual.result c.from_residual.ensures.1 in
-    rw p.1 (unread_crash c.args.layout.now _ (λ es. writes_of (confirmation es)) (n.bytes c.args.device.now) _
-    c.requires.placed confirmation_by c.read_entries.ensures.same.bytes_same)
+    rw p.1 (unread_crash c.args.layout.now _ (λ flash. writes_of (confirmation (entries_in c.args.layout.now flash)))
+    (n.bytes c.args.device.now) _ c.requires.placed (λ flash. confirmation_by.are (entries_in c.args.layout.now flash)) c.read_entries.ensures.same.bytes_same)
 
 -- the rewrite by the entries that were read
 pub returns-clause-steps : goal.returns-clause-steps
