@@ -1,28 +1,23 @@
 -- What a loss of power leaves of rewrites.
-use Rattle.std.proofs.Common.{◌≡◌, ◌≢◌, ◌⊎◌, inl, inr, ℕ, zero, suc, ◌+◌, ◌*◌, ◌%◌, ◌<◌, ◌≤◌, List, [], ◌∷◌, ◌++◌, length, take, drop, Option, Some, None, IfSome, Result, Ok, Err, IfErr, OnErr, refl, sym, ap, ◌∙◌, subst, arith}
+use Rattle.std.proofs.Common.{◌≡◌, ◌≢◌, ◌⊎◌, inl, inr, ℕ, ◌+◌, ◌*◌, ◌<◌, ◌≤◌, List, [], ◌∷◌, length, take, drop, Option, Some, None, IfSome, refl, sym, ap, ◌∙◌, subst, arith}
 use Rattle.std.proofs.lemmas.List.{length-take}
-use Rattle.nor_device.specs.declared.step.Step.{Step}
 use Rattle.nor_device.specs.Flash.{after_steps}
-use Rattle.crash_images.specs.Crash.{LeftAfter, IsLeftOf, IsAfterAll}
+use Rattle.crash_images.specs.Crash.{LeftAfter, IsLeftOf}
 use Rattle.crash_images.proofs.LeftLaws.{left_none, left_append, left_end}
-use Rattle.partition_table.specs.declared.app.App.{App}
 use Rattle.partition_table.specs.Layout.{Places, IsPlaced}
-use Rattle.otadata.specs.declared.entry.Entry.{Entry}
 use Rattle.otadata.specs.Entry.{entry_of}
 use Rattle.boot_select.specs.Boots.{entries_in, images_in}
 use Rattle.boot_select.proofs.StartLemmas.{images_are_placed}
 use Rattle.rollback.specs.declared.rewrite.Rewrite.{Rewrite}
 use Rattle.rollback.specs.Rewrite.{restated, with_state}
-use Rattle.rollback.specs.Boot.{boot_writes}
 use Rattle.rollback.specs.Boots.{boots, boots_in, BootsByVerdict, IsChance}
-use Rattle.rollback.specs.Pair.{other_of}
 use Rattle.rollback.proofs.ChanceLemmas.{verdict-or_chance}
 use Rattle.rollback.proofs.PairLemmas.{still_boots}
 use Rattle.image_verify.specs.Held.{held}
 use Rattle.boot_run.specs.Rewriting.{rewrite, rewrites}
 use Rattle.boot_run.specs.Crashed.{IsRestated, LeavesVerdict, LeavesVerdicts, IsLeftByVerdicts, StillBoots}
 use Rattle.boot_run.proofs.FrameLemmas.{AreShort, left_images, left_other}
-use Rattle.boot_run.proofs.WritesLemmas.{AreRewrites, boot_are, boot_short}
+use Rattle.boot_run.proofs.WritesLemmas.{AreRewrites}
 
 -- the label of an entry of a flash is no longer than an entry's
 pub label_short : (layout : Places) (flash : List ℕ) (y : ℕ) → length (entries_in layout flash y).label ≤ 20

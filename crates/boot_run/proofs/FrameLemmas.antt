@@ -1,15 +1,12 @@
 -- What boots stays where only addresses of the OTA data change, and the entry of a sector where only the other sector does.
-use Rattle.std.proofs.Common.{◌≡◌, ◌≢◌, ◌⊎◌, inl, inr, ℕ, zero, suc, ◌+◌, ◌-◌, ◌*◌, ◌/◌, ◌%◌, ◌<◌, ◌≤◌, Bool, true, List, [], ◌∷◌, ◌++◌, length, Option, Some, None, refl, sym, ap, ◌∙◌, subst, arith}
+use Rattle.std.proofs.Common.{◌≡◌, inl, inr, ℕ, zero, suc, ◌+◌, ◌-◌, ◌*◌, ◌%◌, ◌<◌, ◌≤◌, List, [], ◌∷◌, ◌++◌, length, Option, Some, None, refl, ap, ◌∙◌, arith}
 use Rattle.std.proofs.lemmas.List.{length-append}
 use Rattle.std.proofs.lemmas.Bool.Decides.{nat_tests}
-use Rattle.byteorder.specs.Endian.{little_bytes}
 use Rattle.nor_device.specs.declared.step.Step.{Step}
-use Rattle.nor_device.specs.Flash.{after_steps}
 use Rattle.nor_device.specs.Nor.{part_of}
 use Rattle.crash_images.specs.Crash.{LeftAfter}
 use Rattle.crash_images.specs.Agrees.{Agrees, IsBeside, Covers, StepsWithin}
 use Rattle.crash_images.proofs.AgreesLaws.{agrees_part, left_agrees}
-use Rattle.crash_images.proofs.LeftLaws.{left_end}
 use Rattle.partition_table.specs.declared.app.App.{App}
 use Rattle.partition_table.specs.declared.row.Row.{Row}
 use Rattle.partition_table.specs.Rules.{Stands, is_within}
@@ -17,7 +14,7 @@ use Rattle.partition_table.specs.Layout.{Places, row_for, Apart, IsPlaced, layou
 use Rattle.partition_table.specs.Table.{table_of}
 use Rattle.otadata.specs.declared.entry.Entry.{Entry}
 use Rattle.otadata.specs.Entry.{entry_of, entry_bytes}
-use Rattle.boot_select.specs.Boots.{entries_in, image_by, images_in, slot_in}
+use Rattle.boot_select.specs.Boots.{entries_in, image_by, images_in}
 use Rattle.rollback.specs.declared.rewrite.Rewrite.{Rewrite}
 use Rattle.rollback.specs.Pair.{other_of}
 use Rattle.boot_run.specs.Rewriting.{rewrite, rewrites}

@@ -1,5 +1,5 @@
 -- What a boot starts is what boots of the flash before it.
-use Rattle.std.proofs.Common.{◌≡◌, ◌≤◌, ◌+◌, ◌*◌, ℕ, zero, suc, List, [], ◌∷◌, ◌++◌, length, Option, Some, None, IfSome, Result, Ok, Err, IfOk, OnErr, refl, sym, ap, ◌∙◌, subst, arith}
+use Rattle.std.proofs.Common.{◌≡◌, ◌≤◌, ◌*◌, ℕ, zero, suc, List, [], ◌∷◌, length, Option, Some, None, IfSome, Result, Ok, Err, IfOk, OnErr, refl, sym, ap, ◌∙◌, subst, arith}
 use Rattle.std.proofs.lemmas.List.{length-append}
 use Rattle.nor_device.specs.declared.step.Step.{Step}
 use Rattle.nor_device.specs.declared.nor.NorFault.{NorFault}
@@ -10,9 +10,10 @@ use Rattle.partition_table.specs.declared.app.App.{App}
 use Rattle.partition_table.specs.Layout.{Places, IsPlaced}
 use Rattle.otadata.specs.declared.entry.Entry.{Entry}
 use Rattle.otadata.specs.Entry.{IsStored}
+use Rattle.boot_select.specs.Choice.{named_of}
 use Rattle.boot_select.specs.Settled.{sectors}
 use Rattle.boot_select.specs.Candidates.{candidates}
-use Rattle.boot_select.specs.Boots.{entries_in, first_held, images_in, names}
+use Rattle.boot_select.specs.Boots.{entries_in, images_in, names}
 use Rattle.image_verify.specs.declared.info.ImageInfo.{ImageInfo}
 use Rattle.image_verify.specs.Held.{held}
 use Rattle.rollback.specs.declared.rewrite.Rewrite.{Rewrite}
@@ -22,7 +23,7 @@ use Rattle.rollback.specs.Boots.{boots}
 use Rattle.boot_run.specs.declared.booted.Booted.{Booted}
 use Rattle.boot_run.specs.Rewriting.{rewrite, rewrites}
 use Rattle.boot_run.specs.Read.{OfEntries}
-use Rattle.boot_run.specs.Verified.{Starts, IsFirst}
+use Rattle.boot_run.specs.Verified.{IsFirst}
 use Rattle.boot_run.specs.Crashed.{IsLeftByVerdicts}
 use Rattle.boot_run.specs.Booted.{IsBoot}
 use Rattle.boot_run.proofs.FrameLemmas.{AreShort, left_images}
@@ -186,3 +187,30 @@ by_short writes e0 e1 by first second =
 pub on_err_any : {T E P : Type 0} (r : Result T E) → P → OnErr r P
 on_err_any (Ok x) holds = tt
 on_err_any (Err why) holds = holds
+
+-- what is started of a flash is what boots of it
+pub seen_boot : (layout : Places) (flash : List ℕ) (e0 e1 first second : Entry) (writes : List Rewrite)
+    (apps : List App) (steps : ℕ) (started : Option (App × ImageInfo))
+    → e0 ≡ entries_in layout flash 0 → e1 ≡ entries_in layout flash 1 → writes ≡ boot_writes (sectors e0 e1)
+    → first ≡ written writes (sectors e0 e1) 0 → second ≡ written writes (sectors e0 e1) 1
+    → apps ≡ candidates layout (named_of layout first second)
+    → IsFirst (images_in held layout flash) apps started
+    → IsBoot layout (images_in held layout flash) (entries_in layout flash) (booted_of steps started)
+seen_boot layout flash e0 e1 first second writes apps steps started zeroth other is one two all found =
+    let images = images_in held layout flash in
+    let es = sectors e0 e1 in
+    let named : named_of layout first second ≡ names layout (written (boot_writes es) es) =
+    (λ i. named_of layout (one i) (two i)) ∙ ap (λ ws. names layout (written ws es)) is in
+    let here = subst (λ l. IsFirst images l started) (all ∙ ap (candidates layout) named) found in
+    is_boot_same layout images es (entries_in layout flash) (booted_of steps started)
+    (boots_same layout images es (entries_in layout flash) zeroth other)
+    (first_is_boot layout images es steps started here)
+
+-- how many steps the rewrites of a flash are
+pub seen_steps : (layout : Places) (flash : List ℕ) (e0 e1 : Entry) (writes : List Rewrite) (n : ℕ)
+    → e0 ≡ entries_in layout flash 0 → e1 ≡ entries_in layout flash 1 → writes ≡ boot_writes (sectors e0 e1)
+    → n ≡ length writes → 2 * n ≡ length (rewrites layout.otadata (boot_writes (entries_in layout flash)))
+seen_steps layout flash e0 e1 writes n zeroth other is long =
+    let same = is ∙ writes_same (sectors e0 e1) (entries_in layout flash) zeroth other in
+    omega (arith, long, ap (λ (l : List Rewrite). length l) same,
+    length-rewrites layout.otadata (boot_writes (entries_in layout flash)))

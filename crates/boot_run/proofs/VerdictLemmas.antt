@@ -1,11 +1,11 @@
 -- The rewrite of a confirmation and of a rejection: of the active entry, as it stands.
-use Rattle.std.proofs.Common.{◌==◌, ◌≡◌, ◌⊎◌, inl, inr, ℕ, zero, suc, ◌<◌, ◌≤◌, Bool, true, false, List, [], ◌∷◌, length, Option, Some, None, IsSome, IfSome, Result, Ok, Err, refl, sym, ap, ◌∙◌, subst, if◌then◌else◌, arith}
+use Rattle.std.proofs.Common.{◌==◌, ◌≡◌, ℕ, zero, suc, ◌<◌, Bool, true, false, List, [], length, Option, Some, None, IsSome, IfSome, Result, Ok, Err, refl, sym, ap, ◌∙◌, subst, if◌then◌else◌, arith}
 use Rattle.std.specs.Option.{is_some}
 use Rattle.otadata.specs.declared.entry.Entry.{Entry}
 use Rattle.otadata.specs.Choice.{active_of}
 use Rattle.otadata.proofs.ChoiceLemmas.{active-lt}
 use Rattle.partition_table.specs.declared.app.App.{App}
-use Rattle.partition_table.specs.declared.app.App.TheVariants.{Ota, Factory, Test}
+use Rattle.partition_table.specs.declared.app.App.TheVariants.{Ota}
 use Rattle.partition_table.specs.Layout.{Places}
 use Rattle.boot_select.specs.Choice.{named_by, named_of, slot_app}
 use Rattle.boot_select.specs.Settled.{sectors}

@@ -1,5 +1,5 @@
 -- The rewrites of a boot: at most two, of different sectors, and each gives the entry that stands there another state.
-use Rattle.std.proofs.Common.{◌==◌, ◌≡◌, ◌⊎◌, inl, inr, ℕ, zero, suc, ◌<◌, ◌≤◌, Bool, true, false, List, [], ◌∷◌, ◌++◌, length, get_or, drop, ◌+◌, Option, Some, None, refl, sym, ap, ◌∙◌, subst, if◌then◌else◌, arith, All}
+use Rattle.std.proofs.Common.{◌==◌, ◌≡◌, ◌⊎◌, inl, inr, ℕ, zero, suc, ◌<◌, ◌≤◌, true, false, List, [], ◌∷◌, ◌++◌, length, get_or, drop, ◌+◌, Option, Some, None, refl, sym, ap, ◌∙◌, subst, if◌then◌else◌, arith, All}
 use Rattle.std.proofs.Math.Seq.{drop-cons}
 use Rattle.std.proofs.lemmas.Bool.{cases_Bool}
 use Rattle.std.proofs.lemmas.List.{drop_all}
@@ -9,15 +9,14 @@ use Rattle.otadata.specs.Choice.{active_of}
 use Rattle.partition_table.specs.declared.app.App.{App}
 use Rattle.partition_table.specs.Layout.{Places}
 use Rattle.boot_select.specs.Candidates.{candidates}
-use Rattle.boot_select.specs.Choice.{named_of}
-use Rattle.boot_select.specs.Boots.{first_held, names}
+use Rattle.boot_select.specs.Boots.{first_held}
 use Rattle.rollback.specs.declared.rewrite.Rewrite.{Rewrite}
-use Rattle.rollback.specs.Rewrite.{changed, restated, with_state, written}
+use Rattle.rollback.specs.Rewrite.{changed, restated, written}
 use Rattle.rollback.specs.Boot.{abort, aborts, begin, begin_by, begin_in, boot_writes, given_up}
-use Rattle.rollback.specs.Boots.{after_boot, boots}
+use Rattle.rollback.specs.Boots.{boots}
 use Rattle.rollback.specs.Pair.{other_of}
 use Rattle.rollback.proofs.BootLemmas.{boot_writes-parts}
-use Rattle.rollback.proofs.VoteLemmas.{vote, pick, named_seq, boots_votes, boot_names}
+use Rattle.rollback.proofs.VoteLemmas.{vote, pick, named_seq, boots_votes}
 use Rattle.boot_run.specs.Crashed.{IsRestated}
 use Rattle.boot_run.proofs.FrameLemmas.{AreShort}
 

@@ -1,4 +1,4 @@
-use Rattle.std.proofs.Common.{ℕ, Option, IfSome, ◌≡◌, ◌<◌, ◌∙◌, ◌*◌, List, Some, None, All, length, refl, sym, ap, subst, arith}
+use Rattle.std.proofs.Common.{Option, IfSome, ◌<◌, ◌∙◌, List, All, length, sym, ap, subst, arith}
 use Rattle.partition_table.specs.declared.app.App.{App}
 use Rattle.partition_table.specs.Layout.{Places}
 use Rattle.boot_select.specs.Settled.{sectors}
@@ -7,7 +7,6 @@ use Rattle.image_verify.specs.declared.info.ImageInfo.{ImageInfo}
 use Rattle.image_verify.specs.Held.{held}
 use Rattle.rollback.specs.declared.rewrite.Rewrite.{Rewrite}
 use Rattle.rollback.specs.Boot.{boot_writes}
-use Rattle.boot_run.specs.Rewriting.{rewrites}
 use Rattle.boot_run.specs.Booted.{IsBoot}
 use Rattle.boot_run.proofs.WritesLemmas.{boot_are, boot_two}
 use Rattle.boot_run.proofs.StartedLemmas.{booted_of, boot_by, by_short, told_boot, length-rewrites}

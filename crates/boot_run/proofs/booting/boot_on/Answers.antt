@@ -1,6 +1,4 @@
-use Rattle.std.proofs.Common.{◌≡◌, List, ℕ, Err, Ok, OnOk, IfErr, rules, refl, ap, subst, ◌∙◌}
-use Rattle.std.proofs.lemmas.Result.{err_from_is_err_and, on_err_weaker}
-use Rattle.nor_device.specs.declared.step.Step.{Step}
+use Rattle.std.proofs.lemmas.Result.{err_from_is_err_and}
 use Rattle.boot_select.specs.Settled.{sectors}
 use Rattle.boot_select.specs.Boots.{entries_in}
 use Rattle.rollback.specs.Boot.{boot_writes}

@@ -1,4 +1,4 @@
-use Rattle.std.proofs.Common.{◌≡◌, ◌∙◌, sym, inl, inr}
+use Rattle.std.proofs.Common.{◌∙◌, sym, inl, inr}
 use Rattle.boot_run.proofs.VerdictLemmas.{active_named}
 use Rattle.boot_run.proofs.confirming.active_slot.Goals as goal
 

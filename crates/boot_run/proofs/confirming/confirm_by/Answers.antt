@@ -1,4 +1,4 @@
-use Rattle.std.proofs.Common.{◌≡◌, ◌∙◌, sym, ap, Ok}
+use Rattle.std.proofs.Common.{◌∙◌, sym, ap, Ok}
 use Rattle.boot_run.proofs.VerdictLemmas.{confirm_active, confirm_two}
 use Rattle.boot_run.proofs.confirming.confirm_by.Goals as goal
 

@@ -1,6 +1,5 @@
-use Rattle.std.proofs.Common.{◌≡◌, List, ℕ, Err, Ok, OnOk, IfErr, IfOk, rules, refl, ap, subst, ◌∙◌}
+use Rattle.std.proofs.Common.{IfOk}
 use Rattle.std.proofs.lemmas.Result.{err_from_is_err_and}
-use Rattle.otadata.specs.declared.entry.Entry.{Entry}
 use Rattle.boot_select.specs.Choice.{named_of}
 use Rattle.boot_select.specs.Settled.{sectors}
 use Rattle.boot_select.specs.Boots.{entries_in}

@@ -1,4 +1,4 @@
-use Rattle.std.proofs.Common.{◌≡◌, ◌∙◌, sym}
+use Rattle.std.proofs.Common.{◌∙◌, sym}
 use Rattle.boot_select.specs.Candidates.{is_whole}
 use Rattle.boot_run.proofs.VerdictLemmas.{reject_active, reject_two}
 use Rattle.boot_run.proofs.rejecting.reject_by.Goals as goal

@@ -1,6 +1,5 @@
-use Rattle.std.proofs.Common.{◌≡◌, List, ℕ, Option, IfSome, Err, Ok, OnOk, IfErr, IfOk, rules, refl, ap, subst, ◌∙◌}
+use Rattle.std.proofs.Common.{List, ℕ, Option, IfSome, IfOk, subst, ◌∙◌}
 use Rattle.std.proofs.lemmas.Result.{err_from_is_err_and}
-use Rattle.otadata.specs.declared.entry.Entry.{Entry}
 use Rattle.boot_select.specs.Candidates.{is_whole}
 use Rattle.boot_select.specs.Choice.{named_of}
 use Rattle.boot_select.specs.Settled.{sectors}

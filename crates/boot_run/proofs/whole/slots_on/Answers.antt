@@ -1,7 +1,6 @@
-use Rattle.std.proofs.Common.{◌≡◌, ◌<◌, ◌∙◌, false, length, get_or, arith, rules, subst, sym}
+use Rattle.std.proofs.Common.{◌≡◌, ◌∙◌, false, get_or, arith, rules, subst, sym}
 use Rattle.std.proofs.Math.ListN.{set}
 use Rattle.std.proofs.lemmas.List.{length-set}
-use Rattle.std.specs.Option.{is_some}
 use Rattle.partition_table.specs.declared.app.App.TheVariants.{Ota}
 use Rattle.boot_run.proofs.WholeLemmas.{TellsOf, slots_more, found_tells}
 use Rattle.boot_run.proofs.whole.slots_on.Goals as goal

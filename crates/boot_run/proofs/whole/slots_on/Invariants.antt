@@ -1,4 +1,4 @@
-use Rattle.std.proofs.Common.{◌≡◌, ◌<◌, ◌≤◌, ℕ, false, IfSome, length, get_or}
+use Rattle.std.proofs.Common.{◌≡◌, ◌<◌, ℕ, false, IfSome, length, get_or}
 use Rattle.std.specs.Option.{is_some}
 use Rattle.nor_device.specs.Nor.{IsIdleAsBefore, KeepsSteps}
 use Rattle.partition_table.specs.declared.app.App.TheVariants.{Ota}

@@ -1,5 +1,4 @@
-use Rattle.std.proofs.Common.{◌≡◌, ◌∙◌, false, subst, sym, ap}
-use Rattle.std.specs.Option.{is_some}
+use Rattle.std.proofs.Common.{◌≡◌, ◌∙◌, subst, sym, ap}
 use Rattle.partition_table.specs.declared.app.App.TheVariants.{Factory, Test}
 use Rattle.partition_table.specs.Layout.{Places}
 use Rattle.boot_run.proofs.WholeLemmas.{TellsOf, both_told, factory_told, found_tells, none_of}
