@@ -28,7 +28,8 @@ unfolding target_of
 target-lt layout e0 e1 running some =
     at (sectors e0 e1 (next_sector (active_of e0 e1))) (active_seq e0 e1)
   where
-    at : (old : Entry) (active : Option ℕ) → target_by (length layout.slots) old active running < length layout.slots
+    at : (old : Entry) (active : Option ℕ)
+        → target_by (length layout.slots) old active running < length layout.slots
     at old active = elim (cases_Bool (may_revive (length layout.slots) old active running)) [
       | inl p ↦ rw p (mod-lt (old.seq - 1) some)
       | inr p ↦ rw p (after-lt (length layout.slots) running some)
@@ -41,7 +42,8 @@ matches_new seq some less = record { crc_fits = refl; numbered = omega arith; wr
 -- what is said of the next entry
 abbrev IsNext : ℕ → ℕ → ℕ → Option ℕ → NextEntry → Type 0
 IsNext sector slots slot active next =
-    (sector ≡ next.sector) × Matches next.entry × (next.entry.state ≡ 0) × (slot_named next.entry.seq slots ≡ slot)
+    (sector ≡ next.sector) × Matches next.entry × (next.entry.state ≡ 0)
+    × (slot_named next.entry.seq slots ≡ slot)
     × IsNotBelow next.entry.seq active
 
 -- the next entry where no entry is active
@@ -50,19 +52,27 @@ next_first : (slots slot : ℕ) (next : NextEntry) → slot < slots → slots �
 next_first slots slot next within most is =
     let made : record { sector = 0; entry = new_entry (slot + 1) } ≡ next = cc in
     let less : (slot + 1) - 1 ≡ slot = omega arith in
-    subst (IsNext 0 slots slot None) made
-    (refl, matches_new (slot + 1) (omega arith) (omega arith), refl, ap (λ x. x % slots) less ∙ mod-eq_of_lt within, tt)
+    subst (IsNext 0 slots slot None) made (
+      refl,
+      matches_new (slot + 1) (omega arith) (omega arith),
+      refl,
+      ap (λ x. x % slots) less
+          ∙ mod-eq_of_lt within,
+      tt,
+    )
 
 -- the next entry after an active one
 next_after : (sector slots slot seq : ℕ) (next : NextEntry) → slot < slots → 0 < seq
-    → next_by sector (Some seq) (next_seq slots (Some seq) slot) ≡ Ok next → IsNext sector slots slot (Some seq) next
+    → next_by sector (Some seq) (next_seq slots (Some seq) slot) ≡ Ok next
+    → IsNext sector slots slot (Some seq) next
 next_after sector slots slot seq next within some is =
     let n = next_seq slots (Some seq) slot in
     let follows = next-follows slots seq slot some within in
     at n follows.names follows.not_below is (cases_Bool (ltb n 0xFFFFFFFF))
   where
     at : (n : ℕ) → slot_named n slots ≡ slot → seq ≤ n → next_by sector (Some seq) n ≡ Ok next
-        → (ltb n 0xFFFFFFFF ≡ true) ⊎ (ltb n 0xFFFFFFFF ≡ false) → IsNext sector slots slot (Some seq) next
+        → (ltb n 0xFFFFFFFF ≡ true) ⊎ (ltb n 0xFFFFFFFF ≡ false)
+        → IsNext sector slots slot (Some seq) next
     at n names not_below is (inl p) =
         let less : n < 0xFFFFFFFF = grind (arith, nat_tests) in
         let ok = rw p at is in
@@ -80,7 +90,8 @@ next_is : (e0 e1 : Entry) (slots slot : ℕ) (next : NextEntry) → slot < slots
 unfolding next_of
 next_is e0 e1 slots slot next within most is =
     let by : Option ℕ → Type 0 = λ active.
-    next_by (next_sector active) (seq_at e0 e1 active) (next_seq slots (seq_at e0 e1 active) slot) ≡ Ok next
+    next_by (next_sector active) (seq_at e0 e1 active)
+    (next_seq slots (seq_at e0 e1 active) slot) ≡ Ok next
     → IsNext (next_sector active) slots slot (seq_at e0 e1 active) next in
     elim (active_cases e0 e1) [
       | inl first ↦
@@ -97,13 +108,16 @@ next_is e0 e1 slots slot next within most is =
     ]
 
 -- what an update writes: the next entry announces its slot
-pub aim-heralds : (layout : Places) (entries : ℕ → Entry) (running : App) (slot : ℕ) (next : NextEntry)
+pub aim-heralds : (layout : Places) (entries : ℕ → Entry) (running : App) (slot : ℕ)
+    (next : NextEntry)
     → 0 < length layout.slots → length layout.slots ≤ 16 → IsAim layout entries running slot next
     → Heralds layout entries running next.sector slot next.entry
 aim-heralds layout entries running slot next some most aim =
     let target = target-lt layout (entries 0) (entries 1) running some in
-    let within : slot < length layout.slots = subst (λ k. k < length layout.slots) (sym aim.target) target in
-    let is = next_is (entries 0) (entries 1) (length layout.slots) slot next within most aim.next_is in
+    let within : slot < length layout.slots = subst (λ k. k < length layout.slots)
+    (sym aim.target) target in
+    let is = next_is (entries 0) (entries 1)
+    (length layout.slots) slot next within most aim.next_is in
     record {
       sector_is = sym is.0;
       target = aim.target;

@@ -1,5 +1,5 @@
--- In reading order: what is named, what is tried, what is settled, what an update writes, what a flash
--- says of all that.
+-- In reading order: what is named, what is tried, what is settled, what an update writes, what a
+-- flash says of all that.
 pub mod Choice
 pub mod Candidates
 pub mod Settled

@@ -38,7 +38,8 @@ target_of layout e0 e1 running =
     (active_seq e0 e1) running
 
 -- what an update writes beside the running application: the target slot, and the next entry for it
-pub record IsAim (layout : Places) (entries : ℕ → Entry) (running : App) (slot : ℕ) (next : NextEntry) : Type 0 where
+pub record IsAim (layout : Places) (entries : ℕ → Entry) (running : App) (slot : ℕ)
+    (next : NextEntry) : Type 0 where
   pub target : slot ≡ target_of layout (entries 0) (entries 1) running
   pub next_is : next_of (entries 0) (entries 1) slot (length layout.slots) ≡ Ok next
 
@@ -50,7 +51,8 @@ IsNotBelow seq (Some active) = active ≤ seq
 -- this entry in this sector announces the application that an update has put into this slot: the
 -- slot is the target and the sector that of no active entry; the entry matches, is new, and names
 -- the slot by a sequence that isn't below the active one
-pub record Heralds (layout : Places) (entries : ℕ → Entry) (running : App) (sector slot : ℕ) (entry : Entry) : Type 0 where
+pub record Heralds (layout : Places) (entries : ℕ → Entry) (running : App) (sector slot : ℕ)
+    (entry : Entry) : Type 0 where
   pub sector_is : sector ≡ next_sector (active_of (entries 0) (entries 1))
   pub target : slot ≡ target_of layout (entries 0) (entries 1) running
   pub matches : Matches entry

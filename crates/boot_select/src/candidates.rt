@@ -13,7 +13,8 @@ use arrayvec::ArrayVec;
 use otadata::Entry;
 use partition_table::{App, Layout, Row};
 
-/// The applications in the order in which a bootloader tries them. Each has a partition in the layout.
+/// The applications in the order in which a bootloader tries them. Each has a partition in the
+/// layout.
 pub fn order(layout: &Layout, e0: &Entry, e1: &Entry) -> ArrayVec<App, 18>
     ensures exact { result.items ≡ candidates layout.now (named_of layout.now e0.now e1.now) }
     ensures placed { All (λ app. IsSome (row_for layout.now app)) result.items }

@@ -39,11 +39,11 @@ unfolding boot_writes
 boot_writes-parts es = rw (aborted_0 es, aborted_1 es) refl
 
 -- an entry isn't aborted where it doesn't wait
-abort-none : (sector : ℕ) (e : Entry) → (abort sector e ≡ []) ↔ (e.state ≢ 1)
+pub abort-none : (sector : ℕ) (e : Entry) → (abort sector e ≡ []) ↔ (e.state ≢ 1)
 abort-none sector e = grind (arith, nat_tests)
 
 -- an entry doesn't begin to wait where it isn't new
-begin_in-none : (sector : ℕ) (e : Entry) → (begin_in sector e ≡ []) ↔ (e.state ≢ 0)
+pub begin_in-none : (sector : ℕ) (e : Entry) → (begin_in sector e ≡ []) ↔ (e.state ≢ 0)
 begin_in-none sector e = grind (arith, nat_tests)
 
 -- nothing is left of neither
@@ -52,7 +52,7 @@ append-none [] vs = (λ none. (refl, none), λ both. both.1)
 append-none (w ∷ ws) vs = (λ none. absurd cc, λ both. absurd (let none = both.0 in cc))
 
 -- an entry that doesn't wait is not given up
-given_up-same : (e : Entry) → e.state ≢ 1 → given_up e ≡ e
+pub given_up-same : (e : Entry) → e.state ≢ 1 → given_up e ≡ e
 given_up-same e other = at (cases_Bool (e.state == 1))
   where
     at : ((e.state == 1) ≡ true) ⊎ ((e.state == 1) ≡ false) → given_up e ≡ e

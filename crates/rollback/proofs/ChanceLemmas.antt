@@ -1,20 +1,19 @@
 -- What a loss of power in the rewrite of an entry may make of what boots: whatever entry is found, what
 -- boots is what the VALID or the INVALID one gives, or the one that is found matches by chance.
-use Rattle.std.proofs.Common.{◌==◌, ◌≡◌, ◌≢◌, ◌⊎◌, inl, inr, ℕ, zero, suc, ◌<◌, Bool, true, false, IsTrue, List, length, Option, Some, None, refl, sym, ap, ◌∙◌, subst, if◌then◌else◌, arith}
+use Rattle.std.proofs.Common.{◌==◌, ◌≡◌, ◌≢◌, ◌⊎◌, inl, inr, ℕ, zero, suc, ◌<◌, true, false, Some, None, refl, sym, ap, ◌∙◌, arith}
 use Rattle.std.proofs.lemmas.Bool.{cases_Bool}
 use Rattle.std.proofs.lemmas.Bool.Decides.{nat_tests}
 use Rattle.std.proofs.lemmas.Grind.{common_steps}
 use Rattle.otadata.specs.declared.entry.Entry.{Entry}
 use Rattle.otadata.specs.Choice.{IsValid, Matches, is_valid}
 use Rattle.otadata.proofs.ChoiceLemmas.{matches_or_not, valid}
-use Rattle.partition_table.specs.declared.app.App.{App}
 use Rattle.partition_table.specs.Layout.{Places}
 use Rattle.boot_select.specs.Candidates.{candidates}
-use Rattle.boot_select.specs.Boots.{first_held}
-use Rattle.rollback.specs.Rewrite.{changed, with_state}
+use Rattle.boot_select.specs.Boots.{Images, first_held}
+use Rattle.rollback.specs.Rewrite.{with_state}
 use Rattle.rollback.specs.Boots.{BootsByVerdict, IsChance, boots, in_state}
 use Rattle.rollback.specs.Pair.{other_of}
-use Rattle.rollback.proofs.VoteLemmas.{boots_votes, counted, named_seq, pick, pick_swap, vote}
+use Rattle.rollback.proofs.VoteLemmas.{boots_votes, named_seq, pick, pick_swap, vote}
 
 -- ---- votes
 
@@ -22,7 +21,8 @@ use Rattle.rollback.proofs.VoteLemmas.{boots_votes, counted, named_seq, pick, pi
 pub vote_cases : (e : Entry) → (vote e ≡ None) ⊎ (vote e ≡ Some e.seq)
 vote_cases e = at (cases_Bool (e.state == 1)) (cases_Bool (is_valid e))
   where
-    at : ((e.state == 1) ≡ true) ⊎ ((e.state == 1) ≡ false) → (is_valid e ≡ true) ⊎ (is_valid e ≡ false)
+    at : ((e.state == 1) ≡ true) ⊎ ((e.state == 1) ≡ false) → (is_valid e ≡ true)
+        ⊎ (is_valid e ≡ false)
         → (vote e ≡ None) ⊎ (vote e ≡ Some e.seq)
     at (inl p) q = inl (rw p refl)
     at (inr p) (inl q) = inr (rw (p, q) refl)
@@ -64,17 +64,19 @@ given_up_vote e = invalid_vote (with_state 4 e) (λ fact. fact.not_given_up refl
 -- ---- by the votes of one sector and of the other
 
 -- what boots, by the votes of a sector and of the other one
-pub boots_at : (layout : Places) (images : App → Option (List ℕ)) (es : ℕ → Entry) (y : ℕ) → y < 2
+pub boots_at : (layout : Places) (images : Images) (es : ℕ → Entry) (y : ℕ) → y < 2
     → boots layout images es
-    ≡ first_held images (candidates layout (named_seq layout (pick (vote (es y)) (vote (es (other_of y))))))
+    ≡ first_held images (candidates layout (named_seq layout (pick (vote (es y))
+    (vote (es (other_of y))))))
 boots_at layout images es zero two = boots_votes layout images es
 boots_at layout images es (suc zero) two =
     boots_votes layout images es
-    ∙ ap (λ v. first_held images (candidates layout (named_seq layout v))) (pick_swap (vote (es 0)) (vote (es 1)))
+    ∙ ap (λ v. first_held images (candidates layout (named_seq layout v))) (pick_swap (vote (es 0))
+    (vote (es 1)))
 boots_at layout images es (suc (suc n)) two = absurd (omega arith)
 
 -- what boots is the same where the votes of both sectors are
-pub same_votes : (layout : Places) (images : App → Option (List ℕ)) (es gs : ℕ → Entry) (y : ℕ) → y < 2
+pub same_votes : (layout : Places) (images : Images) (es gs : ℕ → Entry) (y : ℕ) → y < 2
     → vote (gs y) ≡ vote (es y) → vote (gs (other_of y)) ≡ vote (es (other_of y))
     → boots layout images gs ≡ boots layout images es
 same_votes layout images es gs y two same other =
@@ -91,7 +93,8 @@ changed_here state y es = at (cases_Bool (y == y))
     at (inl p) = rw p refl
     at (inr p) = absurd (grind (arith, nat_tests))
 
-pub changed_there : (state y : ℕ) (es : ℕ → Entry) → y < 2 → in_state state y es (other_of y) ≡ es (other_of y)
+pub changed_there : (state y : ℕ) (es : ℕ → Entry) → y < 2
+    → in_state state y es (other_of y) ≡ es (other_of y)
 changed_there state zero es two = refl
 changed_there state (suc zero) es two = refl
 changed_there state (suc (suc n)) es two = absurd (omega arith)
@@ -104,7 +107,8 @@ pub chance_or : (old new found : Entry) → IsChance old new found ⊎ ((¬ Matc
     ⊎ ((Matches old × (found.seq ≡ old.seq)) ⊎ (Matches new × (found.seq ≡ new.seq))))
 chance_or old new found = at (matches_or_not found) (matches_or_not old) (matches_or_not new)
   where
-    at : Matches found ⊎ (¬ Matches found) → Matches old ⊎ (¬ Matches old) → Matches new ⊎ (¬ Matches new)
+    at : Matches found ⊎ (¬ Matches found) → Matches old ⊎ (¬ Matches old) → Matches new
+        ⊎ (¬ Matches new)
         → IsChance old new found ⊎ ((¬ Matches found)
         ⊎ ((Matches old × (found.seq ≡ old.seq)) ⊎ (Matches new × (found.seq ≡ new.seq))))
     at (inr lacks) before after = inr (inl lacks)
@@ -128,9 +132,11 @@ chance_or old new found = at (matches_or_not found) (matches_or_not old) (matche
 
 -- whatever is found in a sector whose entry is rewritten with another state: what boots is what the
 -- VALID entry or the INVALID one gives, or what is found matches by chance
-pub verdict-or_chance : (layout : Places) (images : App → Option (List ℕ)) (es gs : ℕ → Entry) (y state : ℕ) → y < 2
+pub verdict-or_chance : (layout : Places) (images : Images) (es gs : ℕ → Entry) (y state : ℕ)
+    → y < 2
     → gs (other_of y) ≡ es (other_of y)
-    → IsChance (es y) (with_state state (es y)) (gs y) ⊎ BootsByVerdict layout images es y (boots layout images gs)
+    → IsChance (es y) (with_state state (es y)) (gs y)
+    ⊎ BootsByVerdict layout images es y (boots layout images gs)
 verdict-or_chance layout images es gs y state two other =
     at (chance_or (es y) (with_state state (es y)) (gs y)) (vote_cases (gs y))
   where
@@ -146,15 +152,18 @@ verdict-or_chance layout images es gs y state two other =
         → BootsByVerdict layout images es y (boots layout images gs)
     by_confirmed fits some same =
         let here : vote (gs y) ≡ vote (in_state 2 y es y) =
-        some ∙ ap Some same ∙ sym (confirmed_vote (es y) fits) ∙ sym (ap vote (changed_here 2 y es)) in
+        some ∙ ap Some same ∙ sym (confirmed_vote (es y) fits)
+        ∙ sym (ap vote (changed_here 2 y es)) in
         let there : vote (gs (other_of y)) ≡ vote (in_state 2 y es (other_of y)) =
         ap vote (other ∙ sym (changed_there 2 y es two)) in
         inl (same_votes layout images (in_state 2 y es) gs y two here there)
 
     at : IsChance (es y) (with_state state (es y)) (gs y) ⊎ ((¬ Matches (gs y))
-        ⊎ ((Matches (es y) × ((gs y).seq ≡ (es y).seq)) ⊎ (Matches (with_state state (es y)) × ((gs y).seq ≡ (es y).seq))))
+        ⊎ ((Matches (es y) × ((gs y).seq ≡ (es y).seq)) ⊎ (Matches (with_state state (es y))
+        × ((gs y).seq ≡ (es y).seq))))
         → (vote (gs y) ≡ None) ⊎ (vote (gs y) ≡ Some (gs y).seq)
-        → IsChance (es y) (with_state state (es y)) (gs y) ⊎ BootsByVerdict layout images es y (boots layout images gs)
+        → IsChance (es y) (with_state state (es y)) (gs y)
+        ⊎ BootsByVerdict layout images es y (boots layout images gs)
     at (inl chance) voted = inl chance
     at (inr (inl lacks)) voted = inr (by_rejected (unmatched_vote (gs y) lacks))
     at (inr (inr fits)) (inl none) = inr (by_rejected none)

@@ -5,3 +5,6 @@ pub mod VoteLemmas
 pub mod ChanceLemmas
 pub mod PairLemmas
 pub mod UpdateLemmas
+pub mod LifeLemmas
+pub mod EntriesLemmas
+pub mod TruthLemmas

@@ -1,5 +1,5 @@
 -- When an application may not confirm itself or reject itself, in facts.
-use Rattle.std.proofs.Common.{◌==◌, ◌≡◌, ◌≢◌, ◌↔◌, ℕ, Bool, true, false, Option, Some, None, Ok, Err, refl, ◌∙◌, ◌⊎◌, inl, inr, subst, arith}
+use Rattle.std.proofs.Common.{ap, ◌<◌, length, ◌==◌, ◌≡◌, ◌≢◌, ◌↔◌, ℕ, Bool, true, false, Option, Some, None, Ok, Err, refl, ◌∙◌, ◌⊎◌, inl, inr, subst, arith}
 use Rattle.std.proofs.lemmas.Bool.{cases_Bool}
 use Rattle.std.proofs.lemmas.Bool.Decides.{nat_tests}
 use Rattle.otadata.specs.declared.entry.Entry.{Entry}
@@ -10,10 +10,12 @@ use Rattle.partition_table.specs.Layout.{Places}
 use Rattle.boot_select.specs.Choice.{slot_app}
 use Rattle.boot_select.specs.Settled.{is_same, sectors}
 use Rattle.boot_select.proofs.SettledLemmas.{is_same-true}
+use Rattle.boot_select.specs.Boots.{AreTold, Images, has_image, names}
+use Rattle.boot_select.proofs.StartLemmas.{names_a_start, started-told}
 use Rattle.rollback.specs.declared.rewrite.Rewrite.{Rewrite}
 use Rattle.rollback.specs.declared.verdict.NoOtaApp.{NoOtaApp}
 use Rattle.rollback.specs.declared.verdict.RejectNo.TheVariants as no
-use Rattle.rollback.specs.Rewrite.{restated}
+use Rattle.rollback.specs.Rewrite.{changed, restated}
 use Rattle.rollback.specs.Verdict.{HasNothingElse, IsConfirmed, confirm_by, confirm_of, is_other, reject_as, reject_by, reject_of, started_after}
 
 -- ---- a confirmation
@@ -129,3 +131,52 @@ reject-nothing layout whole e0 e1 =
       λ err. let has = by.0 err in record { sector = has.0; active = has.1; nothing_else = has.2 },
       λ fact. by.1 (fact.sector, fact.active, fact.nothing_else),
     )
+
+-- ---- what is rewritten
+
+-- a confirmation makes the active entry VALID
+pub confirm-some : (e0 e1 : Entry) (write : Rewrite) → confirm_of e0 e1 ≡ Ok (Some write)
+    → (sector : ℕ) × (active_of e0 e1 ≡ Some sector) × (write ≡ restated 2 sector (sectors e0 e1 sector))
+unfolding confirm_of
+confirm-some e0 e1 write is = at (active_of e0 e1) refl is
+  where
+    at : (active : Option ℕ) → active_of e0 e1 ≡ active → confirm_by (sectors e0 e1) active ≡ Ok (Some write)
+        → (sector : ℕ) × (active_of e0 e1 ≡ Some sector) × (write ≡ restated 2 sector (sectors e0 e1 sector))
+    at None active is = absurd cc
+    at (Some y) active is = elim (cases_Bool ((sectors e0 e1 y).state == 2)) [
+      | inl p ↦ let none = rw p at is in absurd cc
+      | inr p ↦ let some = rw p at is in (y, active, cc)
+    ]
+
+-- a rejection makes it INVALID
+pub reject-ok : (layout : Places) (whole : App → Bool) (e0 e1 : Entry) (write : Rewrite)
+    → reject_of layout whole e0 e1 ≡ Ok write
+    → (sector : ℕ) × (active_of e0 e1 ≡ Some sector) × (write ≡ restated 3 sector (sectors e0 e1 sector))
+unfolding reject_of
+reject-ok layout whole e0 e1 write is = at (active_of e0 e1) refl is
+  where
+    at : (active : Option ℕ) → active_of e0 e1 ≡ active → reject_by layout whole (sectors e0 e1) active ≡ Ok write
+        → (sector : ℕ) × (active_of e0 e1 ≡ Some sector) × (write ≡ restated 3 sector (sectors e0 e1 sector))
+    at None active is = absurd cc
+    at (Some y) active is =
+        let restates = restated 3 y (sectors e0 e1 y) in
+        elim (cases_Bool (is_other (slot_app layout (sectors e0 e1 y)) (started_after layout whole (sectors e0 e1) restates))) [
+          | inl p ↦ let ok = rw p at is in (y, active, cc)
+          | inr p ↦ let err = rw p at is in absurd cc
+        ]
+
+-- truth values tell whether an application may reject itself
+pub reject-told : (layout : Places) (whole : App → Bool) (images : Images) (e0 e1 : Entry)
+    → AreTold layout whole images → 0 < length layout.slots
+    → reject_of layout whole e0 e1 ≡ reject_of layout (has_image images) e0 e1
+unfolding reject_of
+reject-told layout whole images e0 e1 told some = at (active_of e0 e1)
+  where
+    at : (active : Option ℕ) → reject_by layout whole (sectors e0 e1) active
+        ≡ reject_by layout (has_image images) (sectors e0 e1) active
+    at None = refl
+    at (Some y) =
+        let write = restated 3 y (sectors e0 e1 y) in
+        let rejected = changed write (sectors e0 e1) in
+        ap (reject_as write (slot_app layout (sectors e0 e1 y)))
+        (started-told layout whole images (names layout rejected) told (names_a_start layout rejected some))

@@ -1,6 +1,6 @@
 -- What boots is told by two votes: the sequences of the entries that still count once a boot has made
 -- its rewrites.
-use Rattle.std.proofs.Common.{◌==◌, ◌≡◌, ◌≢◌, ◌⊎◌, inl, inr, ℕ, zero, suc, Bool, true, false, max, List, [], ◌∷◌, ◌++◌, length, Option, Some, None, refl, sym, ap, ◌∙◌, subst, if◌then◌else◌, arith}
+use Rattle.std.proofs.Common.{◌==◌, ◌≡◌, ◌⊎◌, inl, inr, ℕ, zero, suc, true, false, max, List, [], ◌∷◌, ◌++◌, length, Option, Some, None, refl, ap, ◌∙◌, if◌then◌else◌, arith}
 use Rattle.std.proofs.lemmas.Bool.{cases_Bool}
 use Rattle.std.proofs.lemmas.Bool.Decides.{nat_tests}
 use Rattle.std.proofs.lemmas.Grind.{common_steps}
@@ -11,12 +11,12 @@ use Rattle.partition_table.specs.declared.app.App.TheVariants.{Ota, Factory}
 use Rattle.partition_table.specs.Layout.{Places}
 use Rattle.boot_select.specs.Choice.{named_of}
 use Rattle.boot_select.specs.Candidates.{candidates}
-use Rattle.boot_select.specs.Boots.{first_held, names}
+use Rattle.boot_select.specs.Boots.{Images, first_held, names}
 use Rattle.rollback.specs.declared.rewrite.Rewrite.{Rewrite}
 use Rattle.rollback.specs.Rewrite.{changed, with_state, written}
 use Rattle.rollback.specs.Boot.{aborts, begin, begin_by, begin_in, boot_writes, given_up}
 use Rattle.rollback.specs.Boots.{after_boot, boots}
-use Rattle.rollback.proofs.BootLemmas.{aborted_0, aborted_1, boot_writes-parts}
+use Rattle.rollback.proofs.BootLemmas.{aborted_0, aborted_1}
 
 -- the sequence of an entry that counts
 abbrev pub counted : Entry → Option ℕ
@@ -39,7 +39,8 @@ named_seq layout None = Factory
 named_seq layout (Some seq) = Ota (slot_named seq (length layout.slots))
 
 -- the application that two entries name is that of the greater sequence that counts
-named_pick : (layout : Places) (e f : Entry) → named_of layout e f ≡ named_seq layout (pick (counted e) (counted f))
+named_pick : (layout : Places) (e f : Entry)
+    → named_of layout e f ≡ named_seq layout (pick (counted e) (counted f))
 unfolding named_of active_of
 named_pick layout e f = at (cases_Bool (is_valid e)) (cases_Bool (is_valid f))
   where
@@ -65,7 +66,8 @@ given_up_votes e = at (cases_Bool (e.state == 1))
     at (inr p) = rw p refl
 
 -- rewrites one after the other
-written_append : (ws vs : List Rewrite) (es : ℕ → Entry) → written (ws ++ vs) es ≡ written vs (written ws es)
+written_append : (ws vs : List Rewrite) (es : ℕ → Entry)
+    → written (ws ++ vs) es ≡ written vs (written ws es)
 written_append [] vs es = refl
 written_append (w ∷ ws) vs es = written_append ws vs (changed w es)
 
@@ -75,7 +77,8 @@ begin_counts : (gs : ℕ → Entry) (active : Option ℕ) (k : ℕ)
 begin_counts gs None k = refl
 begin_counts gs (Some zero) k = at (cases_Bool ((gs 0).state == 0)) (cases_Bool (k == 0))
   where
-    at : (((gs 0).state == 0) ≡ true) ⊎ (((gs 0).state == 0) ≡ false) → ((k == 0) ≡ true) ⊎ ((k == 0) ≡ false)
+    at : (((gs 0).state == 0) ≡ true) ⊎ (((gs 0).state == 0) ≡ false) → ((k == 0) ≡ true)
+        ⊎ ((k == 0) ≡ false)
         → counted (written (begin_in 0 (gs 0)) gs k) ≡ counted (gs k)
     at (inl p) (inl q) =
         let new : (gs 0).state ≡ 0 = grind (arith, nat_tests) in
@@ -85,7 +88,8 @@ begin_counts gs (Some zero) k = at (cases_Bool ((gs 0).state == 0)) (cases_Bool 
     at (inr p) q = rw p refl
 begin_counts gs (Some (suc n)) k = at (cases_Bool ((gs 1).state == 0)) (cases_Bool (k == 1))
   where
-    at : (((gs 1).state == 0) ≡ true) ⊎ (((gs 1).state == 0) ≡ false) → ((k == 1) ≡ true) ⊎ ((k == 1) ≡ false)
+    at : (((gs 1).state == 0) ≡ true) ⊎ (((gs 1).state == 0) ≡ false) → ((k == 1) ≡ true)
+        ⊎ ((k == 1) ≡ false)
         → counted (written (begin_in 1 (gs 1)) gs k) ≡ counted (gs k)
     at (inl p) (inl q) =
         let new : (gs 1).state ≡ 0 = grind (arith, nat_tests) in
@@ -122,11 +126,12 @@ boot_names layout es =
     ∙ ap (λ v. named_seq layout (pick (vote (es 0)) v)) (boot_votes_1 es)
 
 -- what boots is told by the votes
-pub boots_votes : (layout : Places) (images : App → Option (List ℕ)) (es : ℕ → Entry)
+pub boots_votes : (layout : Places) (images : Images) (es : ℕ → Entry)
     → boots layout images es
     ≡ first_held images (candidates layout (named_seq layout (pick (vote (es 0)) (vote (es 1)))))
 unfolding boots
-boots_votes layout images es = ap (λ app. first_held images (candidates layout app)) (boot_names layout es)
+boots_votes layout images es = ap (λ app. first_held images (candidates layout app))
+    (boot_names layout es)
 
 -- the greater vote, whichever comes first
 pub pick_swap : (a b : Option ℕ) → pick a b ≡ pick b a

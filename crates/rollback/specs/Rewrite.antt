@@ -1,5 +1,5 @@
 -- A rewrite of an entry of the OTA data, and the entries after it.
-use Rattle.std.specs.Prelude.{ℕ, ◌==◌, List, [], ◌∷◌, if◌then◌else◌}
+use Rattle.std.specs.Prelude.{◌≡◌, ◌<◌, ℕ, ◌==◌, List, [], ◌∷◌, if◌then◌else◌}
 use Rattle.otadata.specs.declared.entry.Entry.{Entry}
 use Rattle.rollback.specs.declared.rewrite.Rewrite.{Rewrite}
 
@@ -19,3 +19,11 @@ changed write entries sector = if sector == write.sector then write.entry else e
 abbrev pub written : List Rewrite → (ℕ → Entry) → ℕ → Entry
 written [] entries = entries
 written (write ∷ writes) entries = written writes (changed write entries)
+
+-- each of these rewrites gives the entry of its sector another state, as that entry stands when its
+-- turn comes
+abbrev pub AreRestated : List Rewrite → (ℕ → Entry) → Type 0
+AreRestated [] entries = Unit {0}
+AreRestated (write ∷ writes) entries =
+    (write.sector < 2) × (write ≡ restated write.entry.state write.sector (entries write.sector))
+    × AreRestated writes (changed write entries)
