@@ -1,21 +1,26 @@
 -- The bytes of a slot, read as far as they are wanted.
 use Rattle.std.proofs.Common.{◌≡◌, ℕ, zero, suc, ◌+◌, ◌-◌, ◌≤◌, List, [], ◌∷◌, ◌++◌, length, take, refl, sym, ap, ◌∙◌, arith, inl, inr, subst}
-use Rattle.std.specs.Prelude.{Some, None, nat_lt, min, true, false, ◌⊎◌}
+use Rattle.std.specs.Prelude.{Some, None, nat_lt, min, true, false, ◌⊎◌, ◌↔◌, Result, Ok, Err, IsOk, IfOk, IfErr}
 use Rattle.std.proofs.lemmas.Bool.{cases_Bool}
 use Rattle.std.proofs.lemmas.List.{length-append, length-take-le, take_all}
+use Rattle.image_layout.specs.Whole.{Whole}
 use Rattle.image_verify.specs.declared.bad.BadImage.{BadImage}
+use Rattle.image_verify.specs.declared.info.ImageInfo.{ImageInfo}
 use Rattle.image_verify.specs.declared.info.SegmentNote.{SegmentNote}
+use Rattle.image_verify.specs.declared.reader.Reader.{Reader}
 use Rattle.image_verify.specs.Places.{count_of, flag_of, length_at, note_at, need_of}
 use Rattle.image_verify.specs.Walk.{Walk, Faulty, Begins, Reads, walk, plan}
 use Rattle.image_verify.specs.Bad.{bad}
 use Rattle.image_verify.specs.Held.{held}
-use Rattle.image_verify.specs.Fed.{wanted_by}
+use Rattle.image_verify.specs.Fed.{HasRead, wanted_by}
+use Rattle.image_verify.specs.Info.{IsInfo, HoldsWith}
 use Rattle.image_verify.proofs.First.{unless_reads, same_reads, faulty_reads}
 use Rattle.image_verify.proofs.Reading.{walk_head, walk_wait, walk_end}
 use Rattle.image_verify.proofs.PlanFacts.{plan_reads, plan_begins}
 use Rattle.image_verify.proofs.Longer.{byte_stays, onward, plan_onward, plan_faulty}
 use Rattle.image_verify.proofs.EndFacts.{heads_none}
-use Rattle.image_verify.proofs.HeldFacts.{held_faulty, held_ends, held_nothing}
+use Rattle.image_verify.proofs.WholeFacts.{whole_shows_none}
+use Rattle.image_verify.proofs.HeldFacts.{held_faulty, held_front, held_ends, held_nothing}
 
 -- no more was read than was needed by then
 abbrev pub AtMost : List ℕ → Walk → Type 0
@@ -107,3 +112,27 @@ held_done slot n why inside most done found = by (plan (length slot) (take n slo
         let none = heads_none heads end (flag_of (take n slot)) (length (take n slot)) opened.stopped exact in
         held_ends slot n end notes why (is ∙ ap (λ h. Reads h end notes) none)
         (sym (sym long ∙ exact ∙ ap (λ h. need_of end h (flag_of (take n slot))) none)) inside found
+
+-- what was read to its end, and is whole, is what the slot holds
+pub slot_told : (v : Reader) (result : Result ImageInfo BadImage) (slot : List ℕ) (n : ℕ)
+    → HasRead v (length slot) (take n slot)
+    → (IsOk result ↔ Whole (take n slot) (length slot))
+    → IfOk result (λ info. (limit : ℕ) (bytes : List ℕ) → HasRead v limit bytes → IsInfo bytes info)
+    → IfOk result (HoldsWith slot)
+slot_told v (Ok info) slot n read whole told = record {
+  image = take n slot;
+  holds = held_front slot n (whole_shows_none (length slot) (take n slot) (whole.0 refl));
+  told = told (length slot) (take n slot) read;
+}
+slot_told v (Err why) slot n read whole told = told
+
+-- what was read to its end, and has a fault, tells that it holds none
+pub slot_refused : (v : Reader) (result : Result ImageInfo BadImage) (slot : List ℕ) (n : ℕ)
+    → HasRead v (length slot) (take n slot) → n ≤ length slot
+    → AtMost (take n slot) (plan (length slot) (take n slot))
+    → min (wanted_by (take n slot) (plan (length slot) (take n slot))) (length slot - n) ≡ 0
+    → IfErr result (λ why. (limit : ℕ) (bytes : List ℕ) → HasRead v limit bytes → bad limit bytes ≡ Some why)
+    → IfErr result (λ why. held slot ≡ None)
+slot_refused v (Ok info) slot n read within most done refused = refused
+slot_refused v (Err why) slot n read within most done refused =
+    held_done slot n why within most done (refused (length slot) (take n slot) read)

@@ -1,4 +1,4 @@
-use Rattle.std.proofs.Common.{◌≡◌, ℕ, List, ◌+◌, ◌-◌, ◌≤◌, ◌++◌, length, take, drop, ap, ◌∙◌, sym, arith, subst, refl}
+use Rattle.std.proofs.Common.{◌≡◌, ℕ, List, ◌+◌, ◌-◌, ◌≤◌, ◌++◌, length, take, drop, ap, ◌∙◌, sym, arith, subst}
 use Rattle.std.proofs.Math.Seq.{take-add}
 use Rattle.std.proofs.lemmas.List.{length-take}
 use Rattle.std.specs.Prelude.{IfOk, IfErr, MatchOption, min, Result, Ok, Err, Option, Some, None, IsOk, ◌↔◌}
@@ -12,9 +12,7 @@ use Rattle.image_verify.specs.Bad.{bad}
 use Rattle.image_verify.specs.Held.{held}
 use Rattle.image_verify.specs.Info.{IsInfo, HoldsWith}
 use Rattle.image_verify.specs.Fed.{HasRead, wanted_by}
-use Rattle.image_verify.proofs.HeldFacts.{held_front}
-use Rattle.image_verify.proofs.WholeFacts.{whole_shows_none}
-use Rattle.image_verify.proofs.SlotFacts.{AtMost, at_most_more, held_done}
+use Rattle.image_verify.proofs.SlotFacts.{AtMost, at_most_more, slot_told, slot_refused}
 use Rattle.image_verify.proofs.slot.verify_slot.Goals as goal
 
 -- what was read to its end is what the slot holds where it is whole, and else the slot holds none
@@ -26,13 +24,9 @@ slot_answer : (v : Reader) (result : Result ImageInfo BadImage) (slot : List ℕ
     → IfOk result (λ info. (limit : ℕ) (bytes : List ℕ) → HasRead v limit bytes → IsInfo bytes info)
     → IfErr result (λ why. (limit : ℕ) (bytes : List ℕ) → HasRead v limit bytes → bad limit bytes ≡ Some why)
     → MatchOption (result_ok result) (held slot ≡ None) (HoldsWith slot)
-slot_answer v (Ok info) slot n read within most done whole told refused = record {
-  image = take n slot;
-  holds = held_front slot n (whole_shows_none (length slot) (take n slot) (whole.0 refl));
-  told = told (length slot) (take n slot) read;
-}
+slot_answer v (Ok info) slot n read within most done whole told refused = slot_told v (Ok info) slot n read whole told
 slot_answer v (Err why) slot n read within most done whole told refused =
-    held_done slot n why within most done (refused (length slot) (take n slot) read)
+    slot_refused v (Err why) slot n read within most done refused
 
 -- as many bytes were read as were wanted
 pub loop-more-preserved : goal.loop-more-preserved

@@ -1,0 +1,10 @@
+-- Base first. Crates above cite these lemmas.
+pub mod MadeLemmas
+pub mod RewritingLemmas
+pub mod ReadLemmas
+pub mod FrameLemmas
+pub mod WritesLemmas
+pub mod CrashLemmas
+pub mod StartedLemmas
+pub mod VerdictLemmas
+pub mod WholeLemmas

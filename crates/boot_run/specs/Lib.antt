@@ -1,0 +1,9 @@
+-- In reading order: steps on a device, the steps of a rewrite, the entries of a device, what verifying
+-- tells, what a loss of power leaves, what a boot answers.
+pub mod Made
+pub mod Rewriting
+pub mod Read
+pub mod Verified
+pub mod Crashed
+pub mod Booted
+pub mod Verdict

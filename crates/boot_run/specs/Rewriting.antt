@@ -1,0 +1,23 @@
+-- The steps that rewrite an entry of the OTA data.
+use Rattle.std.specs.Prelude.{◌≡◌, ℕ, ◌+◌, ◌*◌, ◌/◌, ◌%◌, ◌<◌, ◌≤◌, ◌^◌, List, [], ◌∷◌, ◌++◌}
+use Rattle.nor_device.specs.declared.step.Step.{Step}
+use Rattle.nor_device.specs.declared.step.Step.TheVariants.{Erase, Program}
+use Rattle.otadata.specs.Entry.{entry_bytes}
+use Rattle.rollback.specs.declared.rewrite.Rewrite.{Rewrite}
+
+-- the sector is erased, and then the 32 bytes of the entry are programmed at once; the OTA data begin at this place
+abbrev pub rewrite : ℕ → Rewrite → List Step
+rewrite otadata write =
+    Erase (otadata / 4096 + write.sector)
+    ∷ Program (otadata + 4096 * write.sector) (entry_bytes write.entry) ∷ []
+
+-- the rewrites one after the other
+abbrev pub rewrites : ℕ → List Rewrite → List Step
+rewrites otadata [] = []
+rewrites otadata (write ∷ writes) = rewrite otadata write ++ rewrites otadata writes
+
+-- the two sectors of the OTA data lie in a device of this size, at a sector, and each address fits 32 bits
+pub record AreSectors (otadata size : ℕ) : Type 0 where
+  pub aligned : otadata % 4096 ≡ 0
+  pub inside : otadata + 8192 ≤ size
+  pub small : size < 2 ^ 32

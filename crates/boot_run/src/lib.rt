@@ -1,0 +1,21 @@
+//! The bootloader on a device: what it rewrites, and which application it starts.
+#![tactic(auto)]
+
+mod booted;
+mod booting;
+mod confirming;
+mod entries;
+mod previewing;
+mod rejecting;
+mod start;
+mod told;
+mod verify;
+mod whole;
+mod write;
+
+pub use booted::{BootFault, Booted};
+pub use booting::boot;
+pub use confirming::confirm;
+pub use previewing::{NoApp, preview};
+pub use rejecting::reject;
+pub use told::{ConfirmFault, RejectFault, Told};
