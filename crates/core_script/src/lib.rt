@@ -1,0 +1,13 @@
+//! The script of the second core: the text of its actions.
+#![tactic(auto)]
+
+mod action;
+mod line;
+mod refusal;
+mod script;
+#[cfg(test)]
+mod tests;
+
+pub use action::{Action, Label};
+pub use refusal::{ScriptNo, ScriptWhy};
+pub use script::Script;
