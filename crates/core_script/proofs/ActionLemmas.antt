@@ -4,13 +4,18 @@ use Rattle.std.specs.List.{AllByRecursion}
 use Rattle.core_script.specs.declared.action.Action.{Action}
 use Rattle.core_script.specs.Action.{IsInBounds, IsWithin, sectors_in, sectors_of}
 
+-- the sectors of actions, and of others behind them
+pub sectors_of-append : (actions others : List Action)
+    → sectors_of (actions ++ others) ≡ sectors_of actions + sectors_of others
+sectors_of-append [] others = omega arith
+sectors_of-append (first ∷ actions) others =
+    ap (λ n. sectors_in first + n) (sectors_of-append actions others)
+    ∙ sym (add_assoc (sectors_in first) (sectors_of actions) (sectors_of others))
+
 -- the sectors of actions and one more
-sectors_of-snoc : (actions : List Action) (action : Action)
+pub sectors_of-snoc : (actions : List Action) (action : Action)
     → sectors_of (actions ++ action ∷ []) ≡ sectors_of actions + sectors_in action
-sectors_of-snoc [] action = omega arith
-sectors_of-snoc (first ∷ actions) action =
-    ap (λ n. sectors_in first + n) (sectors_of-snoc actions action)
-    ∙ sym (add_assoc (sectors_in first) (sectors_of actions) (sectors_in action))
+sectors_of-snoc actions action = omega (arith, sectors_of-append actions (action ∷ []))
 
 -- the bounds of actions and one more
 bounds-snoc : (actions : List Action) (action : Action) → AllByRecursion IsInBounds actions

@@ -2,6 +2,7 @@
 #![tactic(auto)]
 
 mod action;
+mod laws;
 mod line;
 mod refusal;
 mod script;
@@ -9,5 +10,6 @@ mod script;
 mod tests;
 
 pub use action::{Action, Label};
+pub use laws::scripts_are_their_lines;
 pub use refusal::{ScriptNo, ScriptWhy};
 pub use script::Script;
