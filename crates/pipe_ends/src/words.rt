@@ -99,7 +99,12 @@ mod tests {
         let text = b"entry 1\r\n\n \tflash  2\t32 \r\r\nend\r";
         let mut left = text.as_slice();
         for (line, first, second, words) in [
-            (b"entry 1".as_slice(), b"entry".as_slice(), b"1".as_slice(), 2),
+            (
+                b"entry 1".as_slice(),
+                b"entry".as_slice(),
+                b"1".as_slice(),
+                2,
+            ),
             (b"", b"", b"", 0),
             (b" \tflash  2\t32 \r", b"flash", b"2", 4),
             (b"end\r", b"end\r", b"", 1),
