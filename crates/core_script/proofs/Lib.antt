@@ -1,0 +1,3 @@
+mod ActionLemmas
+mod ReadLemmas
+mod LineLemmas

@@ -1,0 +1,7 @@
+-- Crates above cite these lemmas.
+pub mod RuleLemmas
+mod PageLemmas
+mod FollowLemmas
+mod JoinLemmas
+pub mod WriteLemmas
+pub mod EraseLemmas

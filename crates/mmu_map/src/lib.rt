@@ -1,0 +1,15 @@
+//! The pages of the two address spaces that the cache maps, and the flash pages behind them.
+#![tactic(auto)]
+
+mod laws;
+mod page_use;
+mod pages;
+mod place;
+mod runs;
+#[cfg(test)]
+mod tests;
+
+pub use laws::each_address_goes_by_its_calls;
+pub use page_use::PageUse;
+pub use pages::Pages;
+pub use runs::{NoPages, NotMapped};
