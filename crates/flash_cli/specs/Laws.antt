@@ -3,7 +3,7 @@ use Rattle.std.specs.Prelude.{◌≡◌, ℕ, List, [], Option, Some, None, IsSo
 use Rattle.pipe_ends.specs.Fault.{Rose}
 use Rattle.pipe_ends.specs.Store.{Files}
 use Rattle.pipe_ends.specs.Sink.{TellsAll}
-use Rattle.flash_cli.specs.declared.refusal.Refusal.{Refusal}
+use Rattle.flash_text.specs.declared.refusal.Refusal.{Refusal}
 use Rattle.flash_cli.specs.declared.status.Status.{Status}
 use Rattle.flash_cli.specs.declared.status.Status.TheVariants.{Usage, Refused, StoreFault, SinkFault}
 use Rattle.flash_cli.specs.Command.{Command}

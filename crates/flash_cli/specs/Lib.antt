@@ -1,5 +1,4 @@
 pub mod Command
-pub mod TableText
 pub mod Status
 pub mod Choice
 pub mod Text

@@ -9,8 +9,8 @@ use Rattle.flash_cli.specs.declared.error.Failure.{Failure}
 use Rattle.flash_cli.specs.declared.error.Failure.TheVariants.{Store, Memory}
 use Rattle.flash_cli.specs.declared.error.CommandError.{CommandError}
 use Rattle.flash_cli.specs.declared.error.CommandError.TheVariants.{Absent, Refused, Failed}
-use Rattle.flash_cli.specs.declared.refusal.Refusal.{Refusal}
-use Rattle.flash_cli.specs.declared.refusal.Refusal.TheVariants.{Absent as AbsentFile}
+use Rattle.flash_text.specs.declared.refusal.Refusal.{Refusal}
+use Rattle.flash_text.specs.declared.refusal.Refusal.TheVariants.{Absent as AbsentFile}
 use Rattle.flash_cli.specs.declared.status.Status.{Status}
 use Rattle.flash_cli.specs.declared.status.Status.TheVariants.{Done}
 use Rattle.flash_cli.specs.Command.{Command, Choose, TableMake, TableShow}

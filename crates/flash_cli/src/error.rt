@@ -2,8 +2,8 @@
 
 ghost use Rattle.std.specs.Prelude.{◌≡◌};
 
-use crate::refusal::Refusal;
 use crate::status::Status;
+use flash_text::Refusal;
 use pipe_ends::Memory;
 
 /// What failed, so that the program couldn't go on.

@@ -8,11 +8,9 @@ mod command;
 mod error;
 mod files;
 mod laws;
-mod refusal;
 mod status;
 mod table_make;
 mod table_show;
-mod table_text;
 #[cfg(test)]
 mod tests;
 mod text;

@@ -2,9 +2,9 @@
 
 use crate::error::Failure;
 use crate::files::put_files;
-use crate::refusal::Refusal;
 use crate::status::Status;
 use crate::top::plain;
+use flash_text::Refusal;
 use partition_table::TableBad;
 use pipe_ends::{File, GetFault, MemSink, MemStore, Store};
 use std::alloc::{AllocError, Global};

@@ -12,11 +12,11 @@ use crate::choose::run_choose;
 use crate::command::Command;
 use crate::error::{CommandError, Failure};
 use crate::files::put_files;
-use crate::refusal::Refusal;
 use crate::status::Status;
 use crate::table_make::run_table_make;
 use crate::table_show::run_table_show;
-use crate::text::{put_refusal, put_usage};
+use crate::text::put_usage;
+use flash_text::{Refusal, put_refusal};
 use pipe_ends::{PushFault, Sink, Store};
 use std::alloc::Global;
 
