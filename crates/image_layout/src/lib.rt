@@ -2,6 +2,7 @@
 //! whole image is.
 #![tactic(auto)]
 
+mod checksum;
 mod description;
 mod fields;
 mod footer;
@@ -12,6 +13,7 @@ mod space;
 #[cfg(test)]
 mod tests;
 
+pub use checksum::xor_bytes;
 pub use description::AppDesc;
 pub use footer::footer_end;
 pub use header::Header;

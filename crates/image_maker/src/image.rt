@@ -13,7 +13,7 @@ use crate::part::PartLine;
 use crate::place::{Size, padding_of, size_of};
 use crate::plan::Plan;
 use crate::refusal::MakeNo;
-use image_layout::{SegmentHead, footer_end};
+use image_layout::{SegmentHead, footer_end, xor_bytes};
 use sha2::{Digest, Sha256};
 use std::alloc::{AllocError, Global};
 
@@ -159,17 +159,6 @@ fn append_head(image: &mut Vec<u8>, load: u32, length: u32) -> Result<(), AllocE
     let mut head = [0; 8];
     SegmentHead { load, length }.put(&mut head);
     image.extend_from_slice(&head)
-}
-
-/// The exclusive or of a number with all bytes.
-fn xor_bytes(sum: u8, bytes: &[u8]) -> u8
-    ensures { result ≡ xor_all sum bytes.now }
-{
-    let mut all = sum;
-    for byte in bytes {
-        all ^= *byte;
-    }
-    all
 }
 
 /// Appends zeros and the checksum.

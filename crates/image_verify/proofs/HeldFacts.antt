@@ -13,7 +13,7 @@ use Rattle.image_verify.specs.Bad.{bad}
 use Rattle.image_verify.specs.Held.{extent_by, extent, faultless, held, IsHeld}
 use Rattle.image_verify.proofs.Reading.{walk_end}
 use Rattle.image_verify.proofs.PlanFacts.{plan_reads}
-use Rattle.image_verify.proofs.GoesOn.{byte_stays, onward, plan_onward, plan_faulty}
+use Rattle.image_verify.proofs.Longer.{byte_stays, onward, plan_onward, plan_faulty}
 use Rattle.image_verify.proofs.WholeFacts.{flag_is, plan_image, summed_long, digest_long, whole_shows_none, whole_from_none}
 
 -- a whole image is whole within a wider limit

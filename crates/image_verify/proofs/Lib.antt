@@ -5,7 +5,7 @@ mod WalkEnds
 mod HeaderFacts
 mod PlanFacts
 mod WholeFacts
-mod GoesOn
+mod Longer
 mod KeepFacts
 mod Noted
 mod Steps

@@ -13,7 +13,7 @@ use Rattle.image_verify.specs.Fed.{wanted_by}
 use Rattle.image_verify.proofs.First.{unless_reads, same_reads, faulty_reads}
 use Rattle.image_verify.proofs.Reading.{walk_head, walk_wait, walk_end}
 use Rattle.image_verify.proofs.PlanFacts.{plan_reads, plan_begins}
-use Rattle.image_verify.proofs.GoesOn.{byte_stays, onward, plan_onward, plan_faulty}
+use Rattle.image_verify.proofs.Longer.{byte_stays, onward, plan_onward, plan_faulty}
 use Rattle.image_verify.proofs.EndFacts.{heads_none}
 use Rattle.image_verify.proofs.HeldFacts.{held_faulty, held_ends, held_nothing}
 

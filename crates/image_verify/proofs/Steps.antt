@@ -18,7 +18,7 @@ use Rattle.image_verify.specs.Bad.{counted}
 use Rattle.image_verify.specs.Seen.{IsSeen}
 use Rattle.image_verify.specs.Fed.{want_of, IsWithin, Stands, IsFed}
 use Rattle.image_verify.proofs.Reading.{walk_wait, walk_end}
-use Rattle.image_verify.proofs.GoesOn.{byte_stays, onward, plan_onward, plan_faulty}
+use Rattle.image_verify.proofs.Longer.{byte_stays, onward, plan_onward, plan_faulty}
 use Rattle.image_verify.proofs.KeepFacts.{keep_more}
 use Rattle.image_verify.proofs.Noted.{noted_data, noted_done, noted_more}
 

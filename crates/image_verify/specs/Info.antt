@@ -12,7 +12,13 @@ use Rattle.image_verify.specs.declared.info.SegmentNote.{SegmentNote}
 use Rattle.image_verify.specs.declared.feed.Fed.{Fed}
 use Rattle.image_verify.specs.declared.feed.Fed.TheVariants.{More, Bad}
 use Rattle.image_verify.specs.Places.{notes_from}
+use Rattle.image_verify.specs.Walk.{plan}
 use Rattle.image_verify.specs.Held.{held}
+use Rattle.image_verify.specs.Fed.{notes_in}
+
+-- the segments of a whole image, by its heads
+unfoldable pub segments_of : List ℕ → List SegmentNote
+segments_of bytes = notes_in (plan (length bytes) bytes)
 
 -- its length, its entry address, whether a digest is appended, its segments with their places, and its description
 pub record IsInfo (bytes : List ℕ) (info : ImageInfo) : Type 0 where
@@ -21,6 +27,7 @@ pub record IsInfo (bytes : List ℕ) (info : ImageInfo) : Type 0 where
   pub flagged : IsTrue info.flagged ↔ ((header_of bytes).flag ≡ 1)
   pub segments : (p : Parts) → IsImage p → bytes ≡ summed p ++ p.digest
       → info.segments.items ≡ notes_from 24 p.segments
+  pub heads : info.segments.items ≡ segments_of bytes
   pub desc : info.desc ≡ description_of bytes
 
 -- the answer to a piece, by the fault that shows so far

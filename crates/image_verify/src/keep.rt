@@ -1,7 +1,6 @@
 //! The first bytes of what comes.
 
 ghost use Rattle.std.specs.Prelude.{◌≡◌, ◌≤◌, ◌++◌, length, take};
-ghost use Rattle.image_layout.specs.Whole.{xor_all};
 
 use arrayvec::ArrayVec;
 
@@ -15,15 +14,4 @@ pub(crate) fn keep<const N: usize>(kept: &mut ArrayVec<u8, N>, want: usize, part
     let Ok(()) = kept.try_extend_from_slice(&part[..more]) else {
         unreachable!();
     };
-}
-
-/// The exclusive or of a number with all bytes.
-pub(crate) fn xor_bytes(sum: u8, bytes: &[u8]) -> u8
-    ensures { result ≡ xor_all sum bytes.now }
-{
-    let mut all = sum;
-    for byte in bytes {
-        all ^= *byte;
-    }
-    all
 }

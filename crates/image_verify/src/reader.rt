@@ -15,10 +15,10 @@ ghost use Rattle.image_verify.specs.declared.reader.Stage.TheVariants as stages;
 use crate::bad::BadImage;
 use crate::faults::{head_fault, header_fault, limit_fault, need};
 use crate::info::SegmentNote;
-use crate::keep::{keep, xor_bytes};
+use crate::keep::keep;
 use crate::seen::Seen;
 use arrayvec::ArrayVec;
-use image_layout::SegmentHead;
+use image_layout::{SegmentHead, xor_bytes};
 use sha2::{Digest, Sha256};
 
 /// How far the reading has come.

@@ -1,4 +1,4 @@
-use Rattle.image_verify.proofs.GoesOn.{early_stays, bad_stays}
+use Rattle.image_verify.proofs.Longer.{early_stays, bad_stays}
 use Rattle.image_verify.proofs.laws.faults_stay.Goals as goal
 
 pub returns-clause-early : goal.returns-clause-early

@@ -1,6 +1,6 @@
 use Rattle.std.proofs.Common.{◌≡◌, drop}
 use Rattle.image_layout.specs.Whole.{xor_all}
-use Rattle.image_verify.proofs.keep.xor_bytes.Given as goal
+use Rattle.image_layout.proofs.checksum.xor_bytes.Given as goal
 
 -- the bytes that are left lead to the whole sum
 abbrev pub invariant-loop-byte : goal.invariant-loop-byte
