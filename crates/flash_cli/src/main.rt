@@ -7,6 +7,11 @@ mod choose;
 mod command;
 mod error;
 mod files;
+mod flash_make;
+mod image_check;
+mod image_make;
+#[cfg(test)]
+mod image_tests;
 mod laws;
 mod status;
 mod table_make;
@@ -15,6 +20,7 @@ mod table_show;
 mod tests;
 mod text;
 mod top;
+mod verified;
 
 use crate::status::Status;
 use crate::top::plain;
