@@ -2,6 +2,4 @@ mod JoinedLemmas
 mod RefusedLemmas
 mod PlacingLemmas
 mod WholeLemmas
-mod WordLemmas
 mod ReadLemmas
-mod SplitLemmas

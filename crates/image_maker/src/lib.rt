@@ -5,16 +5,13 @@
 mod check;
 mod draft;
 mod image;
-mod laws;
 mod part;
 mod place;
 mod plan;
 mod refusal;
 #[cfg(test)]
 mod tests;
-mod words;
 
 pub use image::make;
-pub use laws::{lines_are_their_words, texts_are_their_lines};
 pub use plan::Plan;
 pub use refusal::{MakeNo, PlanNo, PlanWhy};

@@ -1,7 +1,7 @@
 //! What the lines of a text and the words of a line are.
 
 ghost use Rattle.std.specs.Prelude.{◌≡◌, ◌≤◌, ◌==◌, ℕ, true, List, [], ◌∷◌, ◌++◌, length};
-ghost use Rattle.image_maker.specs.Words.{HasNo, is_blank, lines_of, without_return, words_of};
+ghost use Rattle.pipe_ends.specs.Words.{HasNo, is_blank, lines_of, without_return, words_of};
 
 /// A text is its lines: each ends with a line feed, and the last one may end with the text.
 pub fn texts_are_their_lines()
