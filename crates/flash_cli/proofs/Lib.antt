@@ -2,7 +2,9 @@
 pub mod WordLemmas
 pub mod PartLemmas
 pub mod ImageLemmas
+pub mod PlaceLemmas
 pub mod FlashLemmas
 pub mod PutLemmas
 pub mod OutcomeLemmas
 pub mod CallLaws
+pub mod MadeLaws

@@ -2,6 +2,5 @@ mod JoinedLemmas
 mod RefusedLemmas
 mod PlacingLemmas
 mod WholeLemmas
-mod WordLemmas
 mod ReadLemmas
-mod SplitLemmas
+mod PlanLemmas

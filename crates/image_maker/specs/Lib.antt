@@ -1,4 +1,3 @@
-pub mod Words
 pub mod Plan
 pub mod PlanText
 pub mod Placing

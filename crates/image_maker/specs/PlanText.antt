@@ -1,8 +1,9 @@
 -- What the text of a plan means.
-use Rattle.std.specs.Prelude.{ℕ, ◌+◌, Bool, true, false, not, ◌&&◌, ◌||◌, ◌==◌, nat_le, List, [], ◌∷◌, ◌++◌, length, slice_index, codes, bytes_eq, Option, Some, None, Result, Ok, Err, if◌then◌else◌, ⊤, ◌≡◌}
+use Rattle.std.specs.Prelude.{ℕ, ◌+◌, Bool, true, false, not, ◌&&◌, ◌==◌, nat_le, List, [], ◌∷◌, ◌++◌, length, slice_index, codes, bytes_eq, Option, Some, None, Result, Ok, Err, if◌then◌else◌, ⊤, ◌≡◌}
 use Rattle.std.specs.Option.{is_some, unwrap_or}
 use Rattle.std.specs.Str.{is_utf8}
-use Rattle.pipe_ends.specs.Number.{number_of_text, within}
+use Rattle.pipe_ends.specs.Number.{number_up_to}
+use Rattle.pipe_ends.specs.Words.{begins, is_skipped, lines_of, word_in, words_of}
 use Rattle.image_maker.specs.declared.draft.Draft.{Draft}
 use Rattle.image_maker.specs.declared.part.Flash.{Flash}
 use Rattle.image_maker.specs.declared.refusal.PlanNo.{PlanNo}
@@ -10,7 +11,6 @@ use Rattle.image_maker.specs.declared.refusal.PlanNo.TheVariants.{Bad, Memory}
 use Rattle.image_maker.specs.declared.refusal.PlanWhy.{PlanWhy}
 use Rattle.image_maker.specs.declared.refusal.PlanWhy.TheVariants.{Word, Count, Number, Choice, Twice, TooMany, Name, NoEntry}
 use Rattle.image_maker.specs.Plan.{Planned, PlannedPart, parts_of}
-use Rattle.image_maker.specs.Words.{lines_of, word_in, words_of}
 
 -- what the lines of a plan said so far
 pub record Drafted : Type 0 where
@@ -46,10 +46,6 @@ counted n words next = if length words == n then next else Err Count
 -- a value, if none came before
 abbrev pub once : {A : Type 0} → Option A → A → Result A PlanWhy
 once old x = if is_some old then Err Twice else Ok x
-
--- the number that a word spells, if it is at most so great
-abbrev pub number_up_to : ℕ → List ℕ → Option ℕ
-number_up_to most word = within most (number_of_text word)
 
 -- the choice of a word
 unfoldable pub choice_of : List ℕ → Option Bool
@@ -89,14 +85,6 @@ part_in words count =
 abbrev pub changed : {A : Type 0} → (A → Drafted) → Result A PlanWhy → Result Drafted PlanWhy
 changed change (Ok x) = Ok (change x)
 changed change (Err why) = Err why
-
--- whether a line says nothing: it has no word, or is a comment
-unfoldable pub is_skipped : List (List ℕ) → Bool
-is_skipped words = (length words == 0) || (slice_index (word_in 0 words) 0 == 35)
-
--- whether the first word is this one
-abbrev pub begins : List (List ℕ) → List ℕ → Bool
-begins words key = bytes_eq (word_in 0 words) key
 
 -- the draft after a line of another kind than a segment
 unfoldable pub after_setting : Drafted → List (List ℕ) → Result Drafted PlanWhy

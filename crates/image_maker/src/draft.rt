@@ -1,15 +1,13 @@
 //! The lines of a plan, one after the other.
 
 ghost use Rattle.std.specs.Prelude.{◌≡◌, ◌==◌, ◌≤◌, ◌<◌, ◌+◌, ◌^◌, [], true, false, length, vec_len, IfOk, IfErr, IfSome, OnOk, MatchOption, Ok, Err};
-ghost use Rattle.pipe_ends.specs.Number.{within};
-ghost use Rattle.image_maker.specs.PlanText.{IsPlanOrMemory, IsRefusedAt, after_line, after_lines, finished, after_setting, choice_of, drafted, entry_of, flash_of, hash_of, is_name, is_skipped, nothing, number_up_to, part_in, plan_by, plan_of_text, with_part};
-ghost use Rattle.image_maker.specs.Words.{lines_from, words_of};
+ghost use Rattle.image_maker.specs.PlanText.{IsPlanOrMemory, IsRefusedAt, after_line, after_setting, choice_of, drafted, entry_of, flash_of, hash_of, is_name, nothing, part_in, plan_by, plan_of_text, with_part};
+ghost use Rattle.pipe_ends.specs.Words.{words_of};
 
 use crate::part::{Flash, PartLine};
 use crate::plan::Plan;
 use crate::refusal::{PlanNo, PlanWhy};
-use crate::words::{begins_with, has_words, without_return, word_at};
-use pipe_ends::read_number;
+use pipe_ends::{begins_with, has_words, is_skipped, next_line, number_up_to, word_at};
 use std::alloc::Global;
 
 /// What the lines of a plan said so far.
@@ -26,15 +24,6 @@ pub(crate) struct Draft {
 struct NamedPart<'a> {
     load: u32,
     name: &'a str,
-}
-
-/// The number that a word spells, if it is at most so great.
-fn number_up_to(most: u64, word: &[u8]) -> Option<u64>
-    ensures exact { result ≡ number_up_to most word.now }
-    ensures most { IfSome result (λ n. n ≤ most) }
-{
-    let number = read_number(word)?;
-    if number <= most { Some(number) } else { None }
 }
 
 /// The choice of a word.
@@ -149,15 +138,6 @@ fn part_in(line: &[u8], count: usize) -> Result<NamedPart<'_>, PlanWhy>
     })
 }
 
-/// Whether a line says nothing.
-#[tactic(auto, unfolding(crate::specs::PlanText::is_skipped))]
-fn is_skipped(line: &[u8]) -> bool
-    ensures exact { result ≡ is_skipped (words_of line.now) }
-{
-    let key = word_at(line, 0);
-    key.len() == 0 || begins_with(key, b'#')
-}
-
 impl Draft {
     /// No line came yet.
     fn new(alloc: Global) -> Draft
@@ -264,35 +244,17 @@ impl Draft {
     }
 }
 
-/// The plan of the lines so far and of the last one, which has no line feed, where there is one.
-fn end_at(draft: Draft, alloc: Global, number: u64, rest: &[u8]) -> Result<Plan, PlanNo>
-    requires few { vec_len draft.lines ≤ 64 }
-    requires room { number + length rest.now < 2 ^ 64 }
-    ensures exact { IsPlanOrMemory result (finished (number + length (lines_from rest.now []))
-        (after_lines (number + 1) (drafted draft) (lines_from rest.now []))) }
-{
-    if rest.len() == 0 {
-        return draft.finish(number);
-    }
-    let mut draft = draft;
-    draft.add(alloc, number + 1, rest)?;
-    draft.finish(number + 1)
-}
-
 /// The plan that a text means, or the first reason why it means none.
 pub(crate) fn read_plan(alloc: Global, text: &[u8]) -> Result<Plan, PlanNo>
     ensures exact { IsPlanOrMemory result (plan_of_text text.now) }
 {
     let mut draft = Draft::new(alloc);
     let mut number = 0;
-    let mut from = 0;
-    for i in 0..text.len() {
-        if text[i] != b'\n' {
-            continue;
-        }
+    let mut left = text;
+    while let Some((line, rest)) = next_line(left) {
         number += 1;
-        draft.add(alloc, number, without_return(&text[from..i]))?;
-        from = i + 1;
+        draft.add(alloc, number, line)?;
+        left = rest;
     }
-    end_at(draft, alloc, number, &text[from..])
+    draft.finish(number)
 }

@@ -12,9 +12,8 @@ mod plan;
 mod refusal;
 #[cfg(test)]
 mod tests;
-mod words;
 
 pub use image::make;
-pub use laws::{lines_are_their_words, texts_are_their_lines};
+pub use laws::made_images_are_whole;
 pub use plan::Plan;
 pub use refusal::{MakeNo, PlanNo, PlanWhy};

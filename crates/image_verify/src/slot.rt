@@ -1,20 +1,18 @@
 //! The image that a slot of a flash holds.
 
-ghost use Rattle.std.specs.Prelude.{◌≡◌, ◌<◌, ◌^◌, IfOk, IfErr, None, length};
+ghost use Rattle.std.specs.Prelude.{◌≡◌, ◌<◌, ◌^◌, MatchOption, None, length};
 ghost use Rattle.image_verify.specs.Held.{held};
 ghost use Rattle.image_verify.specs.Info.{HoldsWith};
 
-use crate::bad::BadImage;
 use crate::info::ImageInfo;
 use crate::verifier::Verifier;
 
-/// What the image is that the bytes of a slot begin with, or why they begin with none.
+/// What the image is that the bytes of a slot begin with, where they begin with a whole one.
 ///
 /// No byte after the image is read.
-pub fn verify_slot(slot: &[u8]) -> Result<ImageInfo, BadImage>
+pub fn verify_slot(slot: &[u8]) -> Option<ImageInfo>
     requires { length slot.now < 2 ^ 32 }
-    ensures ok { IfOk result (HoldsWith slot.now) }
-    ensures err { IfErr result (λ why. held slot.now ≡ None) }
+    ensures exact { MatchOption result (held slot.now ≡ None) (HoldsWith slot.now) }
 {
     let mut verifier = Verifier::new(slot.len() as u32);
     let mut done = 0;
@@ -24,5 +22,5 @@ pub fn verify_slot(slot: &[u8]) -> Result<ImageInfo, BadImage>
         done += more;
         more = (verifier.wanted() as usize).min(slot.len() - done);
     }
-    verifier.finish()
+    verifier.finish().ok()
 }

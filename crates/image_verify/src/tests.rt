@@ -121,7 +121,7 @@ fn a_slot_holds_the_image_that_it_begins_with(rt: HostRuntime) {
     let mut slot = [0xFF; 4096];
     slot[..80].copy_from_slice(&IMAGE);
     match verify_slot(&slot) {
-        Ok(info) => {
+        Some(info) => {
             assert_eq!(rt; info.length, 80, "the length");
             assert_eq!(rt; info.entry, 0x4008_0400, "the entry");
             let data = SegmentNote {
@@ -132,12 +132,8 @@ fn a_slot_holds_the_image_that_it_begins_with(rt: HostRuntime) {
             assert_eq!(rt; info.mapped(Space::Data), Some(data), "the mapped data");
             assert_eq!(rt; info.mapped(Space::Code), None, "no code");
         }
-        Err(why) => assert_eq!(rt; Some(why), None, "it is whole"),
+        None => assert_eq!(rt; false, true, "it is whole"),
     }
     slot[79] ^= 1;
-    assert_eq!(rt;
-        verify_slot(&slot).err(),
-        Some(BadImage::Digest),
-        "a damaged slot"
-    );
+    assert_eq!(rt; verify_slot(&slot).is_none(), true, "a damaged slot");
 }

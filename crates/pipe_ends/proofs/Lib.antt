@@ -2,3 +2,5 @@
 pub mod FilesLemmas
 pub mod HexLemmas
 mod NumberLemmas
+mod WordLemmas
+mod SplitLemmas

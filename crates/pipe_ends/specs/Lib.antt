@@ -7,3 +7,4 @@ pub mod MemStore
 pub mod MemSink
 pub mod Hex
 pub mod Number
+pub mod Words

@@ -36,3 +36,7 @@ spelled_value text =
 -- the number that a text spells, where it fits 64 bits
 unfoldable pub number_of_text : List ℕ → Option ℕ
 number_of_text text = within (2 ^ 64 - 1) (spelled_value text)
+
+-- the number that a text spells, if it is at most so great
+abbrev pub number_up_to : ℕ → List ℕ → Option ℕ
+number_up_to most text = within most (number_of_text text)

@@ -1,7 +1,7 @@
 //! Reading a number by its digits.
 
 ghost use Rattle.std.specs.Prelude.{◌≡◌, ◌≤◌, ◌<◌, ◌+◌, ◌-◌, ◌*◌, ◌^◌, IfSome, option_map};
-ghost use Rattle.pipe_ends.specs.Number.{digit, number_of_text, value_from, value_of, within};
+ghost use Rattle.pipe_ends.specs.Number.{digit, number_of_text, number_up_to, value_from, value_of, within};
 
 /// The number that a text spells by decimal digits, or by `0x` and hex digits of either case.
 #[tactic(auto, unfolding(crate::specs::Number::number_of_text, crate::specs::Number::spelled_value))]
@@ -13,6 +13,15 @@ pub fn read_number(text: &[u8]) -> Option<u64>
     } else {
         value_of(text, 10)
     }
+}
+
+/// The number that a text spells, if it is at most so great.
+pub fn number_up_to(most: u64, text: &[u8]) -> Option<u64>
+    ensures exact { result ≡ number_up_to most text.now }
+    ensures most { IfSome result (λ n. n ≤ most) }
+{
+    let number = read_number(text)?;
+    if number <= most { Some(number) } else { None }
 }
 
 /// The value of one or more digits to this base.

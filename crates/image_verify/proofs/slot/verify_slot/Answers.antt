@@ -1,7 +1,8 @@
 use Rattle.std.proofs.Common.{◌≡◌, ℕ, List, ◌+◌, ◌-◌, ◌≤◌, ◌++◌, length, take, drop, ap, ◌∙◌, sym, arith, subst, refl}
 use Rattle.std.proofs.Math.Seq.{take-add}
 use Rattle.std.proofs.lemmas.List.{length-take}
-use Rattle.std.specs.Prelude.{IfOk, IfErr, min, Result, Ok, Err, Some, None, IsOk, ◌↔◌}
+use Rattle.std.specs.Prelude.{IfOk, IfErr, MatchOption, min, Result, Ok, Err, Option, Some, None, IsOk, ◌↔◌}
+use Rattle.std.specs.Result.{result_ok}
 use Rattle.image_layout.specs.Whole.{Whole}
 use Rattle.image_verify.specs.declared.bad.BadImage.{BadImage}
 use Rattle.image_verify.specs.declared.info.ImageInfo.{ImageInfo}
@@ -16,28 +17,21 @@ use Rattle.image_verify.proofs.WholeFacts.{whole_shows_none}
 use Rattle.image_verify.proofs.SlotFacts.{AtMost, at_most_more, held_done}
 use Rattle.image_verify.proofs.slot.verify_slot.Goals as goal
 
--- what was read to its end, and is whole, is what the slot holds
-slot_told : (v : Reader) (result : Result ImageInfo BadImage) (slot : List ℕ) (n : ℕ)
-    → HasRead v (length slot) (take n slot)
+-- what was read to its end is what the slot holds where it is whole, and else the slot holds none
+slot_answer : (v : Reader) (result : Result ImageInfo BadImage) (slot : List ℕ) (n : ℕ)
+    → HasRead v (length slot) (take n slot) → n ≤ length slot
+    → AtMost (take n slot) (plan (length slot) (take n slot))
+    → min (wanted_by (take n slot) (plan (length slot) (take n slot))) (length slot - n) ≡ 0
     → (IsOk result ↔ Whole (take n slot) (length slot))
     → IfOk result (λ info. (limit : ℕ) (bytes : List ℕ) → HasRead v limit bytes → IsInfo bytes info)
-    → IfOk result (HoldsWith slot)
-slot_told v (Ok info) slot n read whole told = record {
+    → IfErr result (λ why. (limit : ℕ) (bytes : List ℕ) → HasRead v limit bytes → bad limit bytes ≡ Some why)
+    → MatchOption (result_ok result) (held slot ≡ None) (HoldsWith slot)
+slot_answer v (Ok info) slot n read within most done whole told refused = record {
   image = take n slot;
   holds = held_front slot n (whole_shows_none (length slot) (take n slot) (whole.0 refl));
   told = told (length slot) (take n slot) read;
 }
-slot_told v (Err why) slot n read whole told = told
-
--- what was read to its end, and has a fault, tells that it holds none
-slot_refused : (v : Reader) (result : Result ImageInfo BadImage) (slot : List ℕ) (n : ℕ)
-    → HasRead v (length slot) (take n slot) → n ≤ length slot
-    → AtMost (take n slot) (plan (length slot) (take n slot))
-    → min (wanted_by (take n slot) (plan (length slot) (take n slot))) (length slot - n) ≡ 0
-    → IfErr result (λ why. (limit : ℕ) (bytes : List ℕ) → HasRead v limit bytes → bad limit bytes ≡ Some why)
-    → IfErr result (λ why. held slot ≡ None)
-slot_refused v (Ok info) slot n read within most done refused = refused
-slot_refused v (Err why) slot n read within most done refused =
+slot_answer v (Err why) slot n read within most done whole told refused =
     held_done slot n why within most done (refused (length slot) (take n slot) read)
 
 -- as many bytes were read as were wanted
@@ -65,16 +59,15 @@ loop-more-preserved c =
           (c.wanted-in-loop-more.ensures.exact (length slot) (take (done + more) slot) read_next);
     }
 
--- the whole image that was read is what the slot holds
-pub returns-clause-ok : goal.returns-clause-ok
-returns-clause-ok c =
+-- all that was wanted was read
+pub returns : goal.returns
+returns c =
     let b = c.loop-more.invariant in
-    slot_told c.loop-more.verifier c.finish.result c.args.slot.now c.loop-more.done b.read
-    (c.finish.ensures.whole (length c.args.slot.now) (take c.loop-more.done c.args.slot.now) b.read) c.finish.ensures.ok
-
--- it holds none
-pub returns-clause-err : goal.returns-clause-err
-returns-clause-err c =
-    let b = c.loop-more.invariant in
-    slot_refused c.loop-more.verifier c.finish.result c.args.slot.now c.loop-more.done b.read b.within b.most
-    (omega (arith, b.wanted, c.loop-more-test.false)) c.finish.ensures.err
+    record {
+      exact = subst (λ (found : Option ImageInfo). MatchOption found (held c.args.slot.now ≡ None) (HoldsWith c.args.slot.now))
+          (sym c.ok.ensures.value)
+          (slot_answer c.loop-more.verifier c.finish.result c.args.slot.now c.loop-more.done b.read b.within b.most
+          (omega (arith, b.wanted, c.loop-more-test.false))
+          (c.finish.ensures.whole (length c.args.slot.now) (take c.loop-more.done c.args.slot.now) b.read) c.finish.ensures.ok
+          c.finish.ensures.err);
+    }

@@ -1,5 +1,5 @@
-use Rattle.image_maker.proofs.SplitLemmas.{line_ended, line_last, return_goes}
-use Rattle.image_maker.proofs.laws.texts_are_their_lines.Goals as goal
+use Rattle.pipe_ends.proofs.SplitLemmas.{line_ended, line_last, return_goes}
+use Rattle.pipe_ends.proofs.word_laws.texts_are_their_lines.Goals as goal
 
 pub returns-clause-ended : goal.returns-clause-ended
 returns-clause-ended c = line_ended

@@ -1,7 +1,7 @@
 use Rattle.std.proofs.Common.{ap, sym, ◌∙◌, arith}
-use Rattle.image_maker.specs.Words.{word_in}
-use Rattle.image_maker.proofs.WordLemmas.{word_goes_on}
-use Rattle.image_maker.proofs.words.word_at.Goals as goal
+use Rattle.pipe_ends.specs.Words.{word_in}
+use Rattle.pipe_ends.proofs.WordLemmas.{word_goes_on}
+use Rattle.pipe_ends.proofs.words.word_at.Goals as goal
 
 -- a byte that joins the word at hand
 pub loop-i-preserved-then-not-is_blank : goal.loop-i-preserved-then-not-is_blank

@@ -1,5 +1,5 @@
 -- The lines of a text, and the words of a line.
-use Rattle.std.specs.Prelude.{◌≡◌, ℕ, zero, suc, ◌-◌, Bool, false, ◌||◌, ◌==◌, List, [], ◌∷◌, ◌++◌, length, take, slice_index, if◌then◌else◌}
+use Rattle.std.specs.Prelude.{◌≡◌, ℕ, zero, suc, ◌-◌, Bool, false, ◌||◌, ◌==◌, List, [], ◌∷◌, ◌++◌, length, take, slice_index, bytes_eq, if◌then◌else◌}
 
 -- a line without the carriage return at its end, where one stands there
 unfoldable pub without_return : List ℕ → List ℕ
@@ -41,6 +41,14 @@ abbrev pub word_in : ℕ → List (List ℕ) → List ℕ
 word_in n [] = []
 word_in zero (word ∷ words) = word
 word_in (suc n) (word ∷ words) = word_in n words
+
+-- whether a line says nothing: it has no word, or is a comment
+unfoldable pub is_skipped : List (List ℕ) → Bool
+is_skipped words = (length words == 0) || (slice_index (word_in 0 words) 0 == 35)
+
+-- whether the first word is this one
+abbrev pub begins : List (List ℕ) → List ℕ → Bool
+begins words key = bytes_eq (word_in 0 words) key
 
 -- no byte passes this test
 abbrev pub HasNo : (ℕ → Bool) → List ℕ → Type 0

@@ -1,10 +1,9 @@
 use Rattle.std.proofs.Common.{◌≡◌, ap, sym, ◌∙◌, length, arith, true, refl}
 use Rattle.std.specs.Prelude.{◌==◌}
 use Rattle.std.proofs.lemmas.Bool.Decides.{nat_tests}
-use Rattle.image_maker.specs.PlanText.{is_skipped}
-use Rattle.image_maker.specs.Words.{words_of}
-use Rattle.image_maker.proofs.WordLemmas.{ends_before}
-use Rattle.image_maker.proofs.draft.is_skipped.Goals as goal
+use Rattle.pipe_ends.specs.Words.{is_skipped, words_of}
+use Rattle.pipe_ends.proofs.WordLemmas.{ends_before}
+use Rattle.pipe_ends.proofs.words.is_skipped.Goals as goal
 
 -- there is no word
 pub returns-then-key-eq0 : goal.returns-then-key-eq0

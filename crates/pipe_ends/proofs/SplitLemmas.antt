@@ -3,7 +3,7 @@ use Rattle.std.proofs.Common.{◌≡◌, ℕ, ◌+◌, ◌-◌, ◌≤◌, true,
 use Rattle.std.proofs.lemmas.Bool.Decides.{nat_tests}
 use Rattle.std.proofs.lemmas.List.{append_assoc, append-nil, get_or_at, length-append, take_at}
 use Rattle.std.specs.Prelude.{◌==◌}
-use Rattle.image_maker.specs.Words.{HasNo, ended, is_blank, lines_from, lines_of, without_return, words_from, words_of}
+use Rattle.pipe_ends.specs.Words.{HasNo, ended, is_blank, lines_from, lines_of, without_return, words_from, words_of}
 
 -- a line ends at its line feed
 line_from : (front line rest : List ℕ) → HasNo (λ c. c == 10) line

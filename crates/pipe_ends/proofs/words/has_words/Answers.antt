@@ -1,7 +1,7 @@
 use Rattle.std.proofs.Common.{ap, ◌∙◌, length, arith, List, ℕ}
 use Rattle.std.specs.Prelude.{nat_lt, ◌==◌}
-use Rattle.image_maker.proofs.WordLemmas.{has_all, lacks}
-use Rattle.image_maker.proofs.words.has_words.Goals as goal
+use Rattle.pipe_ends.proofs.WordLemmas.{has_all, lacks}
+use Rattle.pipe_ends.proofs.words.has_words.Goals as goal
 
 -- the last of the words has a byte
 pub returns-then-word_at-gt0 : goal.returns-then-word_at-gt0

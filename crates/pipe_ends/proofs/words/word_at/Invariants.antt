@@ -1,6 +1,6 @@
 use Rattle.std.proofs.Common.{◌≡◌, ◌≤◌, ◌-◌, take, drop}
-use Rattle.image_maker.specs.Words.{word_in, words_from, words_of}
-use Rattle.image_maker.proofs.words.word_at.Given as goal
+use Rattle.pipe_ends.specs.Words.{word_in, words_from, words_of}
+use Rattle.pipe_ends.proofs.words.word_at.Given as goal
 
 -- the word is that of the number that is left, of the word at hand and those to come
 abbrev pub invariant-loop-i : goal.invariant-loop-i

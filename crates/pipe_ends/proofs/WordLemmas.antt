@@ -1,9 +1,9 @@
--- Lines and words, byte by byte.
+-- Words, byte by byte.
 use Rattle.std.proofs.Common.{◌≡◌, ◌≢◌, ℕ, zero, suc, ◌+◌, ◌-◌, ◌<◌, ◌≤◌, Bool, true, false, List, [], ◌∷◌, ◌++◌, length, get_or, take, drop, refl, sym, ap, ◌∙◌, arith, add-one, drop-cons}
 use Rattle.std.proofs.lemmas.Bool.Decides.{nat_tests}
 use Rattle.std.proofs.lemmas.List.{get_or-drop, length-drop, take_more}
 use Rattle.std.specs.Prelude.{if◌then◌else◌, nat_lt, ◌==◌}
-use Rattle.image_maker.specs.Words.{ended, is_blank, lines_from, word_in, words_from, words_of}
+use Rattle.pipe_ends.specs.Words.{ended, is_blank, word_in, words_from, words_of}
 
 -- the bytes from one place up to another, and one more
 pub one_more : (from i : ℕ) (text : List ℕ) → i < length text → from ≤ i
@@ -98,11 +98,3 @@ lacks n line some none =
     let left : nat_lt 0 (length (word_in (n - 1) (words_of line))) ≡ false = grind (arith, nat_tests, none) in
     let right : (length (words_of line) == n) ≡ false = grind (arith, nat_tests, other) in
     left ∙ sym right
-
--- a byte that ends no line joins the line at hand
-pub line_goes_on : (from i : ℕ) (text : List ℕ) → i < length text → from ≤ i → get_or text i 0 ≢ 10
-    → lines_from (take (i - from) (drop from text)) (drop i text)
-    ≡ lines_from (take (i + 1 - from) (drop from text)) (drop (i + 1) text)
-line_goes_on from i text below inside other =
-    let test : (get_or text i 0 == 10) ≡ false = grind (arith, nat_tests) in
-    rw (drop-cons text i 0, test, one_more from i text below inside, add-one) refl

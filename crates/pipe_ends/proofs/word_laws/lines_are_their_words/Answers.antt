@@ -1,5 +1,5 @@
-use Rattle.image_maker.proofs.SplitLemmas.{blank_first, word_ended, word_last}
-use Rattle.image_maker.proofs.laws.lines_are_their_words.Goals as goal
+use Rattle.pipe_ends.proofs.SplitLemmas.{blank_first, word_ended, word_last}
+use Rattle.pipe_ends.proofs.word_laws.lines_are_their_words.Goals as goal
 
 pub returns-clause-blank : goal.returns-clause-blank
 returns-clause-blank c = blank_first
