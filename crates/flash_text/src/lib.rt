@@ -4,6 +4,8 @@
 mod image_text;
 mod refusal;
 mod table_text;
+#[cfg(test)]
+mod tests;
 mod text;
 
 pub use image_text::{put_image, put_length};
