@@ -1,7 +1,7 @@
 -- What follows from the clauses of the top call.
 use Rattle.std.proofs.Common.{◌≡◌, [], Option, Some, None, Result, Ok, Err, refl, sym, ap, ◌∙◌}
 use Rattle.pipe_ends.specs.Store.{Files}
-use Rattle.flash_cli.specs.declared.refusal.Refusal.{Refusal}
+use Rattle.flash_text.specs.declared.refusal.Refusal.{Refusal}
 use Rattle.flash_cli.specs.declared.status.Status.TheVariants.{Done, Usage, Refused, StoreFault, DeviceFault, PowerCut, Memory, SinkFault}
 use Rattle.flash_cli.specs.Command.{Command}
 use Rattle.flash_cli.specs.Answer.{Answer, Outcome}

@@ -1,4 +1,10 @@
 -- Lemmas on the words of specs/.
+pub mod WordLemmas
+pub mod PartLemmas
+pub mod ImageLemmas
+pub mod PlaceLemmas
+pub mod FlashLemmas
 pub mod PutLemmas
 pub mod OutcomeLemmas
 pub mod CallLaws
+pub mod MadeLaws

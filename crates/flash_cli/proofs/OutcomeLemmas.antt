@@ -6,7 +6,11 @@ use Rattle.pipe_ends.specs.declared.file.File.{File}
 use Rattle.pipe_ends.specs.MemStore.{named_bytes}
 use Rattle.pipe_ends.specs.Store.{Files}
 use Rattle.flash_cli.specs.Command.{Command}
-use Rattle.flash_cli.specs.Answer.{Outcome}
+use Rattle.flash_text.specs.declared.refusal.Refusal.{Refusal}
+use Rattle.flash_cli.specs.declared.status.Status.{Status}
+use Rattle.flash_cli.specs.declared.status.Status.TheVariants.{Done, Usage, Refused, StoreFault, DeviceFault, PowerCut, Memory, SinkFault}
+use Rattle.flash_cli.specs.Answer.{Answer, Outcome}
+use Rattle.flash_cli.specs.Status.{IsWork, IsDevices}
 use Rattle.flash_cli.specs.Reading.{Reading, Ended, Asks, Absence, ComesTo, read_in, by_answer}
 use Rattle.flash_cli.specs.Report.{IsOutcome, EndsBeforeText, outcome_in, outcome_of, reading_of}
 use Rattle.flash_cli.proofs.PutLemmas.{puts_none}
@@ -59,6 +63,28 @@ some_outcome (Some files) (Some command) = (
     is = refl;
   },
 )
+
+-- words come to a status of the work
+pub is_work : (told : Option Files) (command : Option Command) (outcome : Outcome)
+    → IsOutcome told command outcome → IsWork outcome.status
+is_work told None outcome comes = rw comes tt
+is_work told (Some command) outcome comes = rw comes.is (by comes.result)
+  where
+    by : (result : Result (Result Answer Refusal) Absence) → IsWork (outcome_of result).status
+    by (Ok (Ok answer)) = tt
+    by (Ok (Err why)) = tt
+    by (Err absence) = tt
+
+-- which is none of a device
+pub no_device : (status : Status) → IsWork status → IsDevices status → ⊥
+no_device Done work device = device
+no_device Usage work device = device
+no_device (Refused why) work device = device
+no_device StoreFault work device = work
+no_device (DeviceFault step) work device = work
+no_device (PowerCut step) work device = work
+no_device Memory work device = work
+no_device SinkFault work device = work
 
 -- a call that put and pushed nothing ended before its text
 pub nothing_done : (told put : Option Files) (command : Option Command) (pushed : Option (List ℕ))

@@ -5,10 +5,11 @@ use Rattle.pipe_ends.specs.Store.{Files}
 use Rattle.pipe_ends.specs.MemStore.{named_bytes}
 use Rattle.flash_cli.specs.declared.answer.Answer.{Answer as CodeAnswer}
 use Rattle.flash_cli.specs.declared.answer.Finished.{Finished as CodeFinished}
-use Rattle.flash_cli.specs.declared.refusal.Refusal.{Refusal}
+use Rattle.flash_text.specs.declared.refusal.Refusal.{Refusal}
 use Rattle.flash_cli.specs.declared.status.Status.{Status}
 use Rattle.flash_cli.specs.declared.status.Status.TheVariants.{Usage, Refused}
-use Rattle.flash_cli.specs.Text.{refusal_line, usage_line}
+use Rattle.flash_text.specs.Text.{refusal_line}
+use Rattle.flash_cli.specs.Text.{usage_line}
 
 -- what a command comes to: the text that it pushes, and the files that it puts, in order, each a name
 -- with bytes

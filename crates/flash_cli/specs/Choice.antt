@@ -6,8 +6,8 @@ use Rattle.otadata.specs.Entry.{entry_in}
 use Rattle.boot_select.specs.Choice.{named_of}
 use Rattle.flash_cli.specs.declared.choice.Choice.{Choice}
 use Rattle.nor_device.specs.FlashSize.{is_flash_size}
-use Rattle.flash_cli.specs.declared.refusal.Refusal.{Refusal}
-use Rattle.flash_cli.specs.declared.refusal.Refusal.TheVariants.{FlashSize, Table}
+use Rattle.flash_text.specs.declared.refusal.Refusal.{Refusal}
+use Rattle.flash_text.specs.declared.refusal.Refusal.TheVariants.{FlashSize, Table}
 
 -- what the OTA data of a flash with this layout choose
 unfoldable pub choice_in : List ℕ → Places → Choice

@@ -1,7 +1,7 @@
 -- What the command `choose FLASH` comes to.
 use Rattle.std.specs.Prelude.{ℕ, List, Result, Ok, Err}
 use Rattle.flash_cli.specs.declared.choice.Choice.{Choice}
-use Rattle.flash_cli.specs.declared.refusal.Refusal.{Refusal}
+use Rattle.flash_text.specs.declared.refusal.Refusal.{Refusal}
 use Rattle.flash_cli.specs.Answer.{Answer, text_only}
 use Rattle.flash_cli.specs.Choice.{choice_of}
 use Rattle.flash_cli.specs.Text.{choice_text}

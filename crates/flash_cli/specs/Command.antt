@@ -1,67 +1,115 @@
 -- The commands, and which words are one.
-use Rattle.std.specs.Prelude.{ℕ, Bool, false, not, ◌==◌, ◌&&◌, List, [], ◌∷◌, ◌++◌, map, length, Option, Some, None, if◌then◌else◌, codes, bytes_eq, nat_eq, String, string_bytes}
-use Rattle.std.specs.List.{find, list_all}
+use Rattle.std.specs.Prelude.{ℕ, Bool, true, false, not, ◌==◌, ◌&&◌, ◌||◌, List, [], ◌∷◌, ◌++◌, map, take, drop, length, Option, Some, None, option_map, if◌then◌else◌, codes, bytes_eq, nat_lt, String, string_bytes}
+use Rattle.std.specs.List.{find, list_all, list_any}
 use Rattle.std.specs.declared.alloc.Global.{Global}
+use Rattle.pipe_ends.specs.Number.{number_of_text}
 use Rattle.flash_cli.specs.declared.command.Row.{Row as CodeRow}
 use Rattle.flash_cli.specs.declared.command.Kind.{Kind}
-use Rattle.flash_cli.specs.declared.command.Kind.TheVariants.{Choose as ChooseKind, TableMake as TableMakeKind, TableShow as TableShowKind}
+use Rattle.flash_cli.specs.declared.command.Kind.TheVariants.{Choose as ChooseKind, ImageMake as ImageMakeKind, ImageCheck as ImageCheckKind, TableMake as TableMakeKind, TableShow as TableShowKind, FlashMake as FlashMakeKind}
 use Rattle.flash_cli.specs.declared.command.Command.{Command as Parsed}
-use Rattle.flash_cli.specs.declared.command.Command.TheVariants.{Choose as ParsedChoose, TableMake as ParsedTableMake, TableShow as ParsedTableShow}
+use Rattle.flash_cli.specs.declared.command.Command.TheVariants.{Choose as ParsedChoose, ImageMake as ParsedImageMake, ImageCheck as ParsedImageCheck, TableMake as ParsedTableMake, TableShow as ParsedTableShow, FlashMake as ParsedFlashMake}
 
--- a row of the table of commands: the word, how many names stand after it, and whether it starts cores
+-- a row of the table of commands: the word, how many names stand after it, the words of the options that
+-- may stand after these, and whether it starts cores
 pub record Row : Type 0 where
   pub kind : Kind
   pub word : List ℕ
   pub names : ℕ
+  pub options : List (List ℕ)
   pub cores : Bool
+
+-- the row of a command without options that starts no cores
+abbrev pub plain_row : Kind → List ℕ → ℕ → Row
+plain_row kind word names =
+    record { kind = kind; word = word; names = names; options = []; cores = false }
 
 -- the table of commands, in the order of the usage line
 abbrev pub rows : List Row
 rows =
-    record { kind = ChooseKind; word = codes "choose"; names = 1; cores = false } ∷
-    record { kind = TableMakeKind; word = codes "table-make"; names = 2; cores = false } ∷
-    record { kind = TableShowKind; word = codes "table-show"; names = 1; cores = false } ∷
-    []
+    plain_row ChooseKind (codes "choose") 1
+    ∷ plain_row ImageMakeKind (codes "image-make") 2
+    ∷ plain_row ImageCheckKind (codes "image-check") 1
+    ∷ plain_row TableMakeKind (codes "table-make") 2
+    ∷ plain_row TableShowKind (codes "table-show") 1
+    ∷ plain_row FlashMakeKind (codes "flash-make") 4
+    ∷ []
 
 -- a row of the code
 abbrev pub shown_row : CodeRow → Row
-shown_row row = record { kind = row.kind; word = row.word.now; names = row.names; cores = row.cores }
+shown_row row = record {
+  kind = row.kind;
+  word = row.word.now;
+  names = row.names;
+  options = map (λ option. option.now) row.options.now;
+  cores = row.cores;
+}
 
--- a command, with the names of its files
+-- a command, with the names of its files, and with the number of bytes that its flash is to have
 pub data Command : Type 0 where
   Choose : List ℕ → Command
+  ImageMake : List ℕ → List ℕ → Command
+  ImageCheck : List ℕ → Command
   TableMake : List ℕ → List ℕ → Command
   TableShow : List ℕ → Command
+  FlashMake : List ℕ → List ℕ → ℕ → List ℕ → Command
 
--- the command of this kind with these names, where they are as many as it has
+-- the command of this kind with these names, where they are as many as it has, and what is to be a number
+-- is one
 abbrev pub made : Kind → List (List ℕ) → Option Command
 made ChooseKind (flash ∷ []) = Some (Choose flash)
 made ChooseKind _ = None
+made ImageMakeKind (plan ∷ out ∷ []) = Some (ImageMake plan out)
+made ImageMakeKind _ = None
+made ImageCheckKind (file ∷ []) = Some (ImageCheck file)
+made ImageCheckKind _ = None
 made TableMakeKind (csv ∷ out ∷ []) = Some (TableMake csv out)
 made TableMakeKind _ = None
 made TableShowKind (file ∷ []) = Some (TableShow file)
 made TableShowKind _ = None
+made FlashMakeKind (table ∷ image ∷ size ∷ out ∷ []) =
+    option_map (λ bytes. FlashMake table image bytes out) (number_of_text size)
+made FlashMakeKind _ = None
 
 -- a command without the borrow of its words
 abbrev pub shown : Parsed → Command
 shown (ParsedChoose flash) = Choose flash.now
+shown (ParsedImageMake plan out) = ImageMake plan.now out.now
+shown (ParsedImageCheck file) = ImageCheck file.now
 shown (ParsedTableMake csv out) = TableMake csv.now out.now
 shown (ParsedTableShow file) = TableShow file.now
+shown (ParsedFlashMake table image size out) = FlashMake table.now image.now size out.now
 
 -- whether a word can name a file: it isn't empty, and doesn't begin with a minus sign
 abbrev pub is_file_name : List ℕ → Bool
 is_file_name [] = false
 is_file_name (first ∷ rest) = not (first == 45)
 
--- whether words can stand after the word of this row
-abbrev pub fits : Row → List (List ℕ) → Bool
-fits row names = nat_eq (length names) row.names && list_all is_file_name names
+-- whether an option is among options with their values
+abbrev pub has_option : List ℕ → List (List ℕ) → Bool
+has_option option [] = false
+has_option option (word ∷ []) = false
+has_option option (word ∷ value ∷ more) = bytes_eq word option || has_option option more
 
--- the command that names make after the word of a row, where there is such a row, it starts no cores and
+-- whether words are options with their values: each is one of these, a value stands after it, and it
+-- comes once
+abbrev pub are_options : List (List ℕ) → List (List ℕ) → Bool
+are_options options [] = true
+are_options options (word ∷ []) = false
+are_options options (word ∷ value ∷ more) =
+    list_any (bytes_eq word) options && not (has_option word more) && are_options options more
+
+-- whether words can stand after the word of this row: so many names, and then options
+abbrev pub fits : Row → List (List ℕ) → Bool
+fits row words =
+    if nat_lt (length words) row.names then false
+    else list_all is_file_name (take row.names words) && are_options row.options (drop row.names words)
+
+-- the command that words make after the word of a row, where there is such a row, it starts no cores and
 -- they fit it
 abbrev pub made_by : Option Row → List (List ℕ) → Option Command
-made_by None names = None
-made_by (Some row) names = if not row.cores && fits row names then made row.kind names else None
+made_by None words = None
+made_by (Some row) words =
+    if not row.cores && fits row words then made row.kind (take row.names words) else None
 
 -- the row with this word
 abbrev pub row_of : List Row → List ℕ → Option Row
@@ -70,7 +118,7 @@ row_of rows word = find (λ row. bytes_eq row.word word) rows
 -- the command that words are, where they are one that starts no cores
 abbrev pub command_of : List (List ℕ) → Option Command
 command_of [] = None
-command_of (word ∷ names) = made_by (row_of rows word) names
+command_of (word ∷ words) = made_by (row_of rows word) words
 
 -- the bytes of each word
 abbrev pub words_of : List (String Global) → List (List ℕ)

@@ -1,13 +1,19 @@
 -- What follows from the clauses of the top call, over every call.
-use Rattle.std.specs.Prelude.{◌≡◌, ℕ, List, [], Option, Some, None, IsSome}
+use Rattle.std.specs.Prelude.{◌≡◌, ℕ, ◌<◌, All, List, [], take, drop, Option, Some, None, IsSome, Ok}
 use Rattle.pipe_ends.specs.Fault.{Rose}
 use Rattle.pipe_ends.specs.Store.{Files}
 use Rattle.pipe_ends.specs.Sink.{TellsAll}
-use Rattle.flash_cli.specs.declared.refusal.Refusal.{Refusal}
+use Rattle.partition_table.specs.declared.app.App.TheVariants.{Factory}
+use Rattle.partition_table.specs.declared.row.Row.{Row}
+use Rattle.partition_table.specs.Layout.{Places, layout_in}
+use Rattle.image_verify.specs.Held.{held}
+use Rattle.flash_text.specs.declared.refusal.Refusal.{Refusal}
 use Rattle.flash_cli.specs.declared.status.Status.{Status}
-use Rattle.flash_cli.specs.declared.status.Status.TheVariants.{Usage, Refused, StoreFault, SinkFault}
-use Rattle.flash_cli.specs.Command.{Command}
-use Rattle.flash_cli.specs.Answer.{TellsPuts}
+use Rattle.flash_cli.specs.declared.status.Status.TheVariants.{Done, Usage, Refused, StoreFault, SinkFault}
+use Rattle.flash_cli.specs.Choice.{choice_in}
+use Rattle.flash_cli.specs.Command.{Command, ImageMake, ImageCheck}
+use Rattle.flash_cli.specs.Answer.{TellsPuts, files_after}
+use Rattle.flash_cli.specs.FlashMake.{made_flash}
 use Rattle.flash_cli.specs.Status.{IsWork, IsWorkOrMemory, IsUsageOrUntold, IsDevices}
 use Rattle.flash_cli.specs.Report.{EndsWhole, outcome_in}
 
@@ -52,3 +58,27 @@ FaultlessIsWork = (status : Status) (stores_before stores_now sinks_before sinks
     → (status ≡ SinkFault → Rose sinks_before sinks_now) → (IsDevices status → ⊥)
     → (Rose stores_before stores_now → ⊥) → (Rose sinks_before sinks_now → ⊥)
     → IsWorkOrMemory status
+
+-- where image-make was carried out, image-check of the file that it put is carried out too
+abbrev pub MadeIsWhole : Type 0
+MadeIsWhole = (files : Files) (plan out : List ℕ)
+    → (outcome_in files (Some (ImageMake plan out))).status ≡ Done
+    → (outcome_in (files_after files (outcome_in files (Some (ImageMake plan out))).answer.puts)
+    (Some (ImageCheck out))).status ≡ Done
+
+-- the bytes of a partition of a flash
+abbrev pub slot_of : Row → List ℕ → List ℕ
+slot_of row flash = take row.size (drop row.offset flash)
+
+-- A flash is as it is written at a factory: it has a layout by its own table, the factory partition holds
+-- this image, and the OTA data name factory.
+pub record IsFactoryFlash (flash image : List ℕ) : Type 0 where
+  pub layout : Places
+  pub laid : layout_in flash ≡ Ok layout
+  pub holds : held (slot_of layout.factory flash) ≡ Some image
+  pub named : (choice_in flash layout).app ≡ Factory
+
+-- the flash that is made of the bytes of a table file and an image is one
+abbrev pub MadeIsFactoryFlash : Type 0
+MadeIsFactoryFlash = (size : ℕ) (image flash table : List ℕ) → All (λ b. b < 256) table
+    → made_flash table image size ≡ Ok flash → IsFactoryFlash flash image

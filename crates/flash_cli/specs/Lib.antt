@@ -1,12 +1,14 @@
 pub mod Command
-pub mod TableText
 pub mod Status
 pub mod Choice
 pub mod Text
 pub mod Answer
 pub mod Reading
 pub mod Choose
+pub mod ImageMake
+pub mod ImageCheck
 pub mod TableMake
 pub mod TableShow
+pub mod FlashMake
 pub mod Report
 pub mod Laws

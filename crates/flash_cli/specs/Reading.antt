@@ -1,5 +1,5 @@
 -- What a command reads: files by name, each name by what was read before it.
-use Rattle.std.specs.Prelude.{◌≡◌, ℕ, suc, List, Option, Some, None, Result, Ok, Err, IfSome, MatchOption}
+use Rattle.std.specs.Prelude.{◌≡◌, ℕ, suc, List, [], ◌∷◌, ◌++◌, Option, Some, None, Result, Ok, Err, IfSome, MatchOption}
 use Rattle.std.specs.FinMap.{get}
 use Rattle.pipe_ends.specs.Store.{Files}
 
@@ -7,6 +7,13 @@ use Rattle.pipe_ends.specs.Store.{Files}
 pub data Reading (A : Type 0) : Type 0 where
   Ended : A → Reading A
   Asks : List ℕ → (List ℕ → Reading A) → Reading A
+
+-- a reading that asks for the files of these names in order, behind others that were read, and goes on by
+-- the bytes of all
+abbrev pub asks_all : {A : Type 0} → List (List ℕ) → List (List ℕ) → (List (List ℕ) → Reading A)
+    → Reading A
+asks_all [] read next = next read
+asks_all (name ∷ names) read next = Asks name (λ bytes. asks_all names (read ++ bytes ∷ []) next)
 
 -- the first file that is absent: its number, from 0, of those that were asked for, and its name
 pub record Absence : Type 0 where

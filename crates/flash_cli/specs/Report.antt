@@ -1,5 +1,5 @@
 -- What the words of a call come to, and what the program left in its store and its sink.
-use Rattle.std.specs.Prelude.{◌≡◌, ◌⊎◌, ℕ, List, Option, Some, None, IsSome, Result, Ok, Err, option_map, string_bytes, codes, Vec}
+use Rattle.std.specs.Prelude.{◌≡◌, ◌⊎◌, ℕ, ◌+◌, List, [], length, Option, Some, None, IsSome, Result, Ok, Err, option_map, string_bytes, codes, Vec}
 use Rattle.std.specs.declared.alloc.Global.{Global}
 use Rattle.pipe_ends.specs.Fault.{Rose}
 use Rattle.pipe_ends.specs.Store.{Files}
@@ -9,22 +9,31 @@ use Rattle.flash_cli.specs.declared.error.Failure.{Failure}
 use Rattle.flash_cli.specs.declared.error.Failure.TheVariants.{Store, Memory}
 use Rattle.flash_cli.specs.declared.error.CommandError.{CommandError}
 use Rattle.flash_cli.specs.declared.error.CommandError.TheVariants.{Absent, Refused, Failed}
-use Rattle.flash_cli.specs.declared.refusal.Refusal.{Refusal}
-use Rattle.flash_cli.specs.declared.refusal.Refusal.TheVariants.{Absent as AbsentFile}
+use Rattle.flash_text.specs.declared.refusal.Refusal.{Refusal}
+use Rattle.image_maker.specs.declared.refusal.PlanNo.{PlanNo}
+use Rattle.image_maker.specs.declared.refusal.PlanNo.TheVariants as no_plan
+use Rattle.flash_text.specs.declared.refusal.Refusal.TheVariants.{Absent as AbsentFile, Plan}
 use Rattle.flash_cli.specs.declared.status.Status.{Status}
 use Rattle.flash_cli.specs.declared.status.Status.TheVariants.{Done}
-use Rattle.flash_cli.specs.Command.{Command, Choose, TableMake, TableShow}
-use Rattle.flash_cli.specs.Reading.{Reading, Ended, Asks, Absence, ComesTo, TellsAnswer, read_in}
+use Rattle.flash_cli.specs.Command.{Command, Choose, ImageMake, ImageCheck, TableMake, TableShow, FlashMake}
+use Rattle.flash_cli.specs.Reading.{Reading, Ended, Asks, Absence, ComesTo, TellsAnswer, asks_all, read_in}
 use Rattle.flash_cli.specs.Answer.{Answer, Outcome, TellsPuts, TellsSomePuts, shown_answer, usage_outcome, refused_outcome}
 use Rattle.flash_cli.specs.Choose.{choose_answer}
+use Rattle.flash_cli.specs.ImageMake.{image_make_reading}
+use Rattle.flash_cli.specs.ImageCheck.{image_check_answer}
 use Rattle.flash_cli.specs.TableMake.{table_make_answer}
 use Rattle.flash_cli.specs.TableShow.{table_show_answer}
+use Rattle.flash_cli.specs.FlashMake.{flash_make_answer}
 
 -- what each command reads, and what it comes to: its answer, or the first refusal
 abbrev pub reading_of : Command → Reading (Result Answer Refusal)
 reading_of (Choose flash) = Asks flash (λ bytes. Ended (choose_answer bytes))
+reading_of (ImageMake plan out) = Asks plan (λ text. image_make_reading out text)
+reading_of (ImageCheck file) = Asks file (λ bytes. Ended (image_check_answer bytes))
 reading_of (TableMake csv out) = Asks csv (λ bytes. Ended (table_make_answer out bytes))
 reading_of (TableShow file) = Asks file (λ bytes. Ended (table_show_answer bytes))
+reading_of (FlashMake table image size out) =
+    Asks table (λ rows. Asks image (λ bytes. Ended (flash_make_answer rows bytes size out)))
 
 -- the outcome of a command that came to this
 abbrev pub outcome_of : Result (Result Answer Refusal) Absence → Outcome
@@ -89,13 +98,21 @@ abbrev pub IsCommandsFailure : Option Command → Failure → Type 0
 IsCommandsFailure command Store = IsSome command
 IsCommandsFailure command Memory = Unit {0}
 
--- what was worked out without a store is this, unless the program is out of memory
+-- what was worked out without a store is this as it is shown, unless the program is out of memory
+abbrev pub IsFound : {A B : Type 0} → (A → B) → Result B Refusal → Result A CommandError → Type 0
+IsFound shown expected (Ok value) = expected ≡ Ok (shown value)
+IsFound shown expected (Err (Refused why)) = expected ≡ Err why
+IsFound shown expected (Err (Absent file name)) = ⊥
+IsFound shown expected (Err (Failed Store)) = ⊥
+IsFound shown expected (Err (Failed Memory)) = Unit {0}
+
+-- the answer that was worked out is this one, unless the program is out of memory
 abbrev pub IsWorkedOut : Result Answer Refusal → Result CodeAnswer CommandError → Type 0
-IsWorkedOut expected (Ok answer) = expected ≡ Ok (shown_answer answer)
-IsWorkedOut expected (Err (Refused why)) = expected ≡ Err why
-IsWorkedOut expected (Err (Absent file name)) = ⊥
-IsWorkedOut expected (Err (Failed Store)) = ⊥
-IsWorkedOut expected (Err (Failed Memory)) = Unit {0}
+IsWorkedOut expected result = IsFound shown_answer expected result
+
+-- the bytes that were worked out are these, unless the program is out of memory
+abbrev pub AreWorkedOut : Result (List ℕ) Refusal → Result (Vec ℕ Global) CommandError → Type 0
+AreWorkedOut expected result = IsFound (λ (bytes : Vec ℕ Global). bytes.items) expected result
 
 -- a reading, of which this many files were read, ends so: by what it comes to, or by a failure
 abbrev pub IsEnd : Option Files → ℕ → Reading (Result Answer Refusal) → ℕ → ℕ
@@ -120,6 +137,25 @@ IsNotRead told number name before now (Refused why) = ⊥
 IsNotRead told number name before now (Absent file absent) =
     TellsAnswer told name None × ((file ≡ number) × (string_bytes absent ≡ name))
 IsNotRead told number name before now (Failed failure) = IsCountedFailure before now failure
+
+-- The files of these names, of which the first has this number, have these bytes: what a reading comes to
+-- by them, it comes to where it asks for them in order.
+abbrev pub AreRead : Option Files → ℕ → List (List ℕ) → List (List ℕ) → Type 0
+AreRead told number names read = (next : List (List ℕ) → Reading (Result Answer Refusal))
+    (result : Result (Result Answer Refusal) Absence)
+    → ComesTo told (number + length names) (next read) result
+    → ComesTo told number (asks_all names [] next) result
+
+-- the files of these names, of which the first has this number, were not all read for this reason: so
+-- ends whatever asks for them in order
+abbrev pub AreNotRead : Option Files → ℕ → List (List ℕ) → ℕ → ℕ → CommandError → Type 0
+AreNotRead told number names before now error = (next : List (List ℕ) → Reading (Result Answer Refusal))
+    → IsEnd told number (asks_all names [] next) before now (Err error)
+
+-- the error of a text that means no plan
+abbrev pub IsPlanError : PlanNo → CommandError → Type 0
+IsPlanError (no_plan.Bad line why) error = error ≡ Refused (Plan line why)
+IsPlanError no_plan.Memory error = error ≡ Failed Memory
 
 -- what a store answers of the file of this name
 abbrev pub IsFileRead : Option Files → List ℕ → Option (Vec ℕ Global) → Type 0

@@ -6,10 +6,10 @@ use Rattle.part_csv.specs.declared.refusal.CsvNo.{CsvNo}
 use Rattle.part_csv.specs.declared.refusal.CsvNo.TheVariants as no_table
 use Rattle.part_csv.specs.declared.refusal.CsvWhy.TheVariants as why
 use Rattle.part_csv.specs.Source.{table_of_source}
-use Rattle.flash_cli.specs.declared.refusal.Refusal.{Refusal}
-use Rattle.flash_cli.specs.declared.refusal.Refusal.TheVariants.{Table, Csv}
+use Rattle.flash_text.specs.declared.refusal.Refusal.{Refusal}
+use Rattle.flash_text.specs.declared.refusal.Refusal.TheVariants.{Table, Csv}
 use Rattle.flash_cli.specs.Answer.{Answer}
-use Rattle.flash_cli.specs.TableText.{rows_line}
+use Rattle.flash_text.specs.TableText.{rows_line}
 
 -- the refusal of a source. That memory ran out is none of a source's, and what stands there plays no part
 abbrev pub csv_refusal : CsvNo → Refusal

@@ -3,10 +3,10 @@ use Rattle.std.specs.Prelude.{ℕ, ◌==◌, List, length, Result, Ok, Err, if�
 use Rattle.partition_table.specs.declared.row.Row.{Row}
 use Rattle.partition_table.specs.declared.bad.TableBad.{TableBad}
 use Rattle.partition_table.specs.Table.{table_of}
-use Rattle.flash_cli.specs.declared.refusal.Refusal.{Refusal}
-use Rattle.flash_cli.specs.declared.refusal.Refusal.TheVariants.{TableLength, Table}
+use Rattle.flash_text.specs.declared.refusal.Refusal.{Refusal}
+use Rattle.flash_text.specs.declared.refusal.Refusal.TheVariants.{TableLength, Table}
 use Rattle.flash_cli.specs.Answer.{Answer, text_only}
-use Rattle.flash_cli.specs.TableText.{row_lines}
+use Rattle.flash_text.specs.TableText.{row_lines}
 
 -- a refusal of the table as one of the command
 abbrev pub rows_or_refusal : Result (List Row) TableBad → Result (List Row) Refusal

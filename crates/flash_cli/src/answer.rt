@@ -33,10 +33,10 @@ impl Answer {
         alloc: Global,
         text: Vec<u8>,
         name: &str,
-        bytes: &[u8],
+        bytes: Vec<u8>,
     ) -> Result<Answer, CommandError>
         ensures exact { IsWorkedOut
-            (Ok (record { text = text.items; puts = (name.now, bytes.now) ∷ [] })) result }
+            (Ok (record { text = text.items; puts = (name.now, bytes.items) ∷ [] })) result }
     {
         match named_file(alloc, name, bytes) {
             Ok(puts) => Ok(Answer { text, puts }),
@@ -46,14 +46,11 @@ impl Answer {
 }
 
 /// One file of this name with these bytes.
-fn named_file(alloc: Global, name: &str, bytes: &[u8]) -> Result<Vec<File>, Failure>
-    ensures ok { IfOk result (λ files. map named_bytes files.items ≡ (name.now, bytes.now) ∷ []) }
+fn named_file(alloc: Global, name: &str, bytes: Vec<u8>) -> Result<Vec<File>, Failure>
+    ensures ok { IfOk result (λ files. map named_bytes files.items ≡ (name.now, bytes.items) ∷ []) }
     ensures cause { IfErr result (λ failure. failure ≡ Failure.Memory) }
 {
     let Ok(name) = String::from_str(alloc, name) else {
-        return Err(Failure::Memory);
-    };
-    let Ok(bytes) = Vec::from_slice(alloc, bytes) else {
         return Err(Failure::Memory);
     };
     match vec![in alloc; File { name, bytes }] {

@@ -3,8 +3,8 @@
 ghost use Rattle.std.specs.Prelude.{◌≡◌, ◌≤◌, ◌+◌, length};
 ghost use Rattle.flash_cli.specs.Choice.{choice_of, choice_in};
 
-use crate::refusal::Refusal;
 use boot_select::named;
+use flash_text::Refusal;
 use nor_device::is_flash_size;
 use otadata::{Entry, entry_in};
 use partition_table::{App, Layout, layout_in};

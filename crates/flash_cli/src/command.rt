@@ -1,56 +1,54 @@
 //! The commands, and which words are one.
 
-ghost use Rattle.std.specs.Prelude.{◌≡◌, map, option_map, option_copied, string_bytes};
-ghost use Rattle.std.specs.List.{list_all};
-ghost use Rattle.flash_cli.specs.Command.{rows, row_of, shown_row, shown, fits, made, command_of, words_of, is_file_name};
+ghost use Rattle.std.specs.Prelude.{◌≡◌, ◌≤◌, IsTrue, length, map, option_map, option_copied, string_bytes};
+ghost use Rattle.std.specs.List.{list_all, list_any};
+ghost use Rattle.std.specs.Str.{bytes_eq};
+ghost use Rattle.flash_cli.specs.Command.{rows, plain_row, row_of, shown_row, shown, fits, made, command_of, words_of, is_file_name, are_options, has_option};
+
+use pipe_ends::read_number;
 
 /// Which command.
 #[derive(Clone, Copy, Debug, PartialEq, Eq)]
 pub(crate) enum Kind {
     /// `choose FLASH`
     Choose,
+    /// `image-make PLAN OUT`
+    ImageMake,
+    /// `image-check FILE`
+    ImageCheck,
     /// `table-make CSV OUT`
     TableMake,
     /// `table-show FILE`
     TableShow,
+    /// `flash-make TABLE APP SIZE OUT`
+    FlashMake,
 }
 
-/// A row of the table of commands: the word, how many names stand after it, and whether it starts
-/// cores.
-#[derive(Clone, Copy, Debug, PartialEq, Eq)]
+/// A row of the table of commands: the word, how many names stand after it, the words of the options
+/// that may stand after these, and whether it starts cores.
+#[derive(Clone, Copy)]
 pub(crate) struct Row {
     pub(crate) kind: Kind,
     pub(crate) word: &'static str,
     pub(crate) names: usize,
+    pub(crate) options: &'static [&'static str],
     pub(crate) cores: bool,
 }
 
 /// How many commands there are.
-const COMMANDS: usize = 3;
+const COMMANDS: usize = 6;
 
 /// The table of commands, in the order of the usage line.
 pub(crate) fn table() -> [Row; COMMANDS]
     ensures exact { map shown_row result ≡ rows }
 {
     [
-        Row {
-            kind: Kind::Choose,
-            word: "choose",
-            names: 1,
-            cores: false,
-        },
-        Row {
-            kind: Kind::TableMake,
-            word: "table-make",
-            names: 2,
-            cores: false,
-        },
-        Row {
-            kind: Kind::TableShow,
-            word: "table-show",
-            names: 1,
-            cores: false,
-        },
+        Row::plain(Kind::Choose, "choose", 1),
+        Row::plain(Kind::ImageMake, "image-make", 2),
+        Row::plain(Kind::ImageCheck, "image-check", 1),
+        Row::plain(Kind::TableMake, "table-make", 2),
+        Row::plain(Kind::TableShow, "table-show", 1),
+        Row::plain(Kind::FlashMake, "flash-make", 4),
     ]
 }
 
@@ -58,11 +56,34 @@ pub(crate) fn table() -> [Row; COMMANDS]
 #[derive(Clone, Copy, Debug, PartialEq, Eq)]
 pub(crate) enum Command<'a> {
     /// Print the entries of a flash's OTA data, and the application that they name.
-    Choose { flash: &'a str },
+    Choose {
+        flash: &'a str,
+    },
+    /// Put the image that a plan and its parts make.
+    ImageMake {
+        plan: &'a str,
+        out: &'a str,
+    },
+    /// Print what a file is as an application image.
+    ImageCheck {
+        file: &'a str,
+    },
     /// Put the partition table that a source means.
-    TableMake { csv: &'a str, out: &'a str },
+    TableMake {
+        csv: &'a str,
+        out: &'a str,
+    },
     /// Print the partitions of a table file.
-    TableShow { file: &'a str },
+    TableShow {
+        file: &'a str,
+    },
+    /// Put a flash of so many bytes with a table and an image.
+    FlashMake {
+        table: &'a str,
+        image: &'a str,
+        size: u64,
+        out: &'a str,
+    },
 }
 
 impl<'a> Command<'a> {
@@ -70,18 +91,19 @@ impl<'a> Command<'a> {
     pub(crate) fn read(words: &'a [String]) -> Option<Command<'a>>
         ensures exact { option_map shown result ≡ command_of (words_of words.now) }
     {
-        let [word, names @ ..] = words else {
+        let [word, words @ ..] = words else {
             return None;
         };
         let row = row_of(&table(), word.as_str())?;
-        if !row.cores && row.fits(names) {
-            Command::made(row.kind, names)
+        if !row.cores && row.fits(words) {
+            Command::made(row.kind, &words[..row.names])
         } else {
             None
         }
     }
 
-    /// The command of this kind with these names, where they are as many as it has.
+    /// The command of this kind with these names, where they are as many as it has, and what is to be
+    /// a number is one.
     fn made(kind: Kind, names: &'a [String]) -> Option<Command<'a>>
         ensures exact { option_map shown result ≡ made kind (words_of names.now) }
     {
@@ -90,6 +112,15 @@ impl<'a> Command<'a> {
                 flash: flash.as_str(),
             }),
             (Kind::Choose, _) => None,
+            (Kind::ImageMake, [plan, out]) => Some(Command::ImageMake {
+                plan: plan.as_str(),
+                out: out.as_str(),
+            }),
+            (Kind::ImageMake, _) => None,
+            (Kind::ImageCheck, [file]) => Some(Command::ImageCheck {
+                file: file.as_str(),
+            }),
+            (Kind::ImageCheck, _) => None,
             (Kind::TableMake, [csv, out]) => Some(Command::TableMake {
                 csv: csv.as_str(),
                 out: out.as_str(),
@@ -99,16 +130,45 @@ impl<'a> Command<'a> {
                 file: file.as_str(),
             }),
             (Kind::TableShow, _) => None,
+            (Kind::FlashMake, [table, image, size, out]) => {
+                let size = read_number(size.as_str().as_bytes())?;
+                Some(Command::FlashMake {
+                    table: table.as_str(),
+                    image: image.as_str(),
+                    size,
+                    out: out.as_str(),
+                })
+            }
+            (Kind::FlashMake, _) => None,
         }
     }
 }
 
 impl Row {
-    /// Whether words can stand after the word of this row.
-    fn fits(&self, names: &[String]) -> bool
-        ensures exact { result ≡ fits (shown_row self.now) (words_of names.now) }
+    /// The row of a command without options that starts no cores.
+    fn plain(kind: Kind, word: &'static str, names: usize) -> Row
+        ensures exact { shown_row result ≡ plain_row kind word.now names }
     {
-        names.len() == self.names && are_file_names(names)
+        Row {
+            kind,
+            word,
+            names,
+            options: &[],
+            cores: false,
+        }
+    }
+
+    /// Whether words can stand after the word of this row: so many names, and then options.
+    fn fits(&self, words: &[String]) -> bool
+        ensures exact { result ≡ fits (shown_row self.now) (words_of words.now) }
+        ensures names { IsTrue result → self.now.names ≤ length words.now }
+    {
+        if words.len() < self.names {
+            return false;
+        }
+        let names = are_file_names(&words[..self.names]);
+        let options = are_options(self.options, &words[self.names..]);
+        names & options
     }
 }
 
@@ -143,5 +203,46 @@ fn is_file_name(word: &str) -> bool
     match word.as_bytes() {
         [] => false,
         [first, ..] => *first != b'-',
+    }
+}
+
+/// Whether words are options with their values: each is one of these, a value stands after it, and it
+/// comes once.
+fn are_options(options: &[&str], words: &[String]) -> bool
+    ensures exact { result
+        ≡ are_options (map (λ option. option.now) options.now) (words_of words.now) }
+{
+    match words {
+        [] => true,
+        [_] => false,
+        [word, _, more @ ..] => {
+            let known = is_one_of(options, word.as_str());
+            let again = has_option(word.as_str(), more);
+            let rest = are_options(options, more);
+            known & !again & rest
+        }
+    }
+}
+
+/// Whether an option is one of these.
+fn is_one_of(options: &[&str], word: &str) -> bool
+    ensures exact { result ≡ list_any (bytes_eq word.now) (map (λ option. option.now) options.now) }
+{
+    for option in options {
+        if word == *option {
+            return true;
+        }
+    }
+    false
+}
+
+/// Whether an option is among options with their values.
+fn has_option(option: &str, words: &[String]) -> bool
+    ensures exact { result ≡ has_option option.now (words_of words.now) }
+{
+    match words {
+        [] => false,
+        [_] => false,
+        [word, _, more @ ..] => word.as_str() == option || has_option(option, more),
     }
 }

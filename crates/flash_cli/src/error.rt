@@ -2,8 +2,9 @@
 
 ghost use Rattle.std.specs.Prelude.{◌≡◌};
 
-use crate::refusal::Refusal;
 use crate::status::Status;
+use flash_text::Refusal;
+use image_verify::BadImage;
 use pipe_ends::Memory;
 
 /// What failed, so that the program couldn't go on.
@@ -58,6 +59,18 @@ impl From<Refusal> for CommandError {
     /// The refusal of the command.
     fn from(why: Refusal) -> CommandError {
         CommandError::Refused(why)
+    }
+}
+
+impl From<BadImage> for CommandError {
+    ghost use Rattle.flash_cli.specs.declared.error.CommandError.TheVariants.{Refused};
+    ghost use Rattle.flash_text.specs.declared.refusal.Refusal.TheVariants.{Image};
+
+    ghost from_gives = { λ why error. error ≡ Refused (Image why) };
+
+    /// The refusal of a file that is no whole image.
+    fn from(why: BadImage) -> CommandError {
+        CommandError::Refused(Refusal::Image(why))
     }
 }
 

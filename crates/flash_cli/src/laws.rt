@@ -1,6 +1,9 @@
 //! What follows from the clauses of the top call, over every call.
 
-ghost use Rattle.flash_cli.specs.Laws.{UsageIsOfNoCommand, NoCommandIsUsage, ToldFilesDetermine, RefusedPutsNothing, FaultlessIsWork};
+ghost use Rattle.flash_cli.specs.Laws.{UsageIsOfNoCommand, NoCommandIsUsage, ToldFilesDetermine, RefusedPutsNothing, FaultlessIsWork, MadeIsWhole, MadeIsFactoryFlash};
+
+use image_maker::made_images_are_whole;
+use image_verify::whole_images_show_no_fault;
 
 /// The status `Usage` is that of words that are no command, and of no others.
 pub(crate) fn usage_is_of_no_command()
@@ -23,3 +26,19 @@ pub(crate) fn a_refused_command_puts_nothing()
 pub(crate) fn a_call_without_a_fault_is_carried_out()
     ensures ok { FaultlessIsWork }
 {}
+
+/// What `image-make` puts, `image-check` finds whole.
+pub(crate) fn what_is_made_is_found_whole()
+    ensures whole { MadeIsWhole }
+{
+    made_images_are_whole();
+    whole_images_show_no_fault();
+}
+
+/// A bootloader finds a layout in the flash that `flash-make` puts, the image in factory, and factory
+/// named.
+pub(crate) fn a_made_flash_is_as_written_at_a_factory()
+    ensures whole { MadeIsFactoryFlash }
+{
+    whole_images_show_no_fault();
+}

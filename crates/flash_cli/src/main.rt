@@ -7,16 +7,20 @@ mod choose;
 mod command;
 mod error;
 mod files;
+mod flash_make;
+mod image_check;
+mod image_make;
+#[cfg(test)]
+mod image_tests;
 mod laws;
-mod refusal;
 mod status;
 mod table_make;
 mod table_show;
-mod table_text;
 #[cfg(test)]
 mod tests;
 mod text;
 mod top;
+mod verified;
 
 use crate::status::Status;
 use crate::top::plain;

@@ -1,6 +1,7 @@
 //! The command `table-make CSV OUT`.
 
-ghost use Rattle.std.specs.Prelude.{◌≡◌, ◌≤◌};
+ghost use Rattle.std.specs.Prelude.{◌≡◌, ◌≤◌, IfOk};
+ghost use Rattle.partition_table.specs.Table.{table_text};
 ghost use Rattle.flash_cli.specs.Command.{TableMake};
 ghost use Rattle.flash_cli.specs.TableMake.{table_make_answer, csv_refusal};
 ghost use Rattle.flash_cli.specs.Report.{IsEnd, IsWorkedOut, reading_of};
@@ -8,11 +9,10 @@ ghost use Rattle.flash_cli.specs.Report.{IsEnd, IsWorkedOut, reading_of};
 use crate::answer::Answer;
 use crate::error::{CommandError, Failure};
 use crate::files::needed_file;
-use crate::refusal::Refusal;
-use crate::table_text::put_count;
+use flash_text::{Refusal, put_count};
 use part_csv::{CsvNo, read_csv};
-use partition_table::TABLE_SIZE;
-use pipe_ends::Store;
+use partition_table::{TABLE_SIZE, Table};
+use pipe_ends::{Memory, Store};
 use std::alloc::Global;
 
 /// The size of the largest flash, which the tables of files are for.
@@ -46,7 +46,14 @@ fn make_table(alloc: Global, csv: &[u8], out: &str) -> Result<Answer, CommandErr
     };
     let mut text = Vec::new(alloc);
     put_count(&mut text, table.rows())?;
+    Answer::with_file(alloc, text, out, table_bytes(alloc, &table)?)
+}
+
+/// The bytes of a table.
+fn table_bytes(alloc: Global, table: &Table) -> Result<Vec<u8>, Memory>
+    ensures exact { IfOk result (λ bytes. bytes.items ≡ table_text table.now) }
+{
     let mut bytes = [0; TABLE_SIZE];
     table.put(&mut bytes);
-    Answer::with_file(alloc, text, out, &bytes)
+    Ok(Vec::from_slice(alloc, &bytes)?)
 }

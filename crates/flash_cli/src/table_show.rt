@@ -1,6 +1,7 @@
 //! The command `table-show FILE`.
 
 ghost use Rattle.std.specs.Prelude.{◌≡◌, ◌≤◌, IfOk, IfErr};
+ghost use Rattle.partition_table.specs.Rules.{FitsFlash};
 ghost use Rattle.flash_cli.specs.Command.{TableShow};
 ghost use Rattle.flash_cli.specs.TableShow.{file_rows, table_show_answer};
 ghost use Rattle.flash_cli.specs.Report.{IsEnd, IsWorkedOut, reading_of};
@@ -8,9 +9,8 @@ ghost use Rattle.flash_cli.specs.Report.{IsEnd, IsWorkedOut, reading_of};
 use crate::answer::Answer;
 use crate::error::CommandError;
 use crate::files::needed_file;
-use crate::refusal::Refusal;
 use crate::table_make::LARGEST_FLASH;
-use crate::table_text::put_rows_lines;
+use flash_text::{Refusal, put_rows_lines};
 use partition_table::{TABLE_SIZE, Table};
 use pipe_ends::Store;
 use std::alloc::Global;
@@ -44,6 +44,7 @@ fn show_table(alloc: Global, file: &[u8]) -> Result<Answer, CommandError>
 #[tactic(auto, unfolding(crate::specs::TableShow::file_rows))]
 pub(crate) fn file_table(file: &[u8], flash: u32) -> Result<Table, Refusal>
     ensures ok { IfOk result (λ table. file_rows file.now flash ≡ Ok table) }
+    ensures fits { IfOk result (FitsFlash flash) }
     ensures err { IfErr result (λ why. file_rows file.now flash ≡ Err why) }
 {
     if file.len() != TABLE_SIZE {

@@ -2,9 +2,9 @@
 
 use crate::error::Failure;
 use crate::files::put_files;
-use crate::refusal::Refusal;
 use crate::status::Status;
 use crate::top::plain;
+use flash_text::Refusal;
 use partition_table::TableBad;
 use pipe_ends::{File, GetFault, MemSink, MemStore, Store};
 use std::alloc::{AllocError, Global};
@@ -53,9 +53,10 @@ const THIRD: Numbers = (3, VALID, 0xED4A5011);
 /// No byte of the flash is changed.
 const UNCHANGED: (usize, u8) = (usize::MAX, 0);
 
-const USAGE: &str = "usage: flash_cli choose|table-make|table-show\n";
+const USAGE: &str =
+    "usage: flash_cli choose|image-make|image-check|table-make|table-show|flash-make\n";
 
-const BLANK_LINES: &str = "entry 0 seq 4294967295 state UNDEFINED invalid
+pub(crate) const BLANK_LINES: &str = "entry 0 seq 4294967295 state UNDEFINED invalid
 entry 1 seq 4294967295 state UNDEFINED invalid
 names factory
 ";
@@ -105,7 +106,7 @@ fn worded<'a>(words: &'a [&'a str], status: Status, text: &'a str) -> Row<'a> {
 }
 
 /// Writes bytes at a place, as far as the flash has it.
-fn write(flash: &mut [u8], at: usize, bytes: &[u8]) {
+pub(crate) fn write(flash: &mut [u8], at: usize, bytes: &[u8]) {
     if at <= flash.len() && bytes.len() <= flash.len() - at {
         flash[at..at + bytes.len()].copy_from_slice(bytes);
     }
@@ -273,7 +274,7 @@ fn a_refused_allocation_is_out_of_memory(rt: HostRuntime) {
 }
 
 /// A file of this name with these bytes.
-fn file_of(alloc: Global, name: &str, bytes: &[u8]) -> Result<File, AllocError> {
+pub(crate) fn file_of(alloc: Global, name: &str, bytes: &[u8]) -> Result<File, AllocError> {
     Ok(File {
         name: String::from_str(alloc, name)?,
         bytes: Vec::from_slice(alloc, bytes)?,
@@ -318,7 +319,7 @@ fn a_put_that_fails_leaves_those_before_it(rt: HostRuntime) -> Result<(), Fail> 
 }
 
 /// The source of a table with a factory application and two slots.
-const SOURCE: &str = "# Name, Type, SubType, Offset, Size, Flags
+pub(crate) const SOURCE: &str = "# Name, Type, SubType, Offset, Size, Flags
 nvs, data, nvs, , 0x4000,
 otadata, data, ota, , 0x2000,
 phy_init, data, phy, , 0x1000,
@@ -353,7 +354,7 @@ fn store_of(alloc: Global, name: &str, bytes: &[u8]) -> Result<MemStore, AllocEr
 }
 
 /// The status of a call with these words on a store, and what it pushed.
-fn called(
+pub(crate) fn called(
     alloc: Global,
     words: &[&str],
     store: &mut MemStore,

@@ -12,11 +12,14 @@ use crate::choose::run_choose;
 use crate::command::Command;
 use crate::error::{CommandError, Failure};
 use crate::files::put_files;
-use crate::refusal::Refusal;
+use crate::flash_make::run_flash_make;
+use crate::image_check::run_image_check;
+use crate::image_make::run_image_make;
 use crate::status::Status;
 use crate::table_make::run_table_make;
 use crate::table_show::run_table_show;
-use crate::text::{put_refusal, put_usage};
+use crate::text::put_usage;
+use flash_text::{Refusal, put_refusal};
 use pipe_ends::{PushFault, Sink, Store};
 use std::alloc::Global;
 
@@ -130,7 +133,15 @@ fn carry_out<S: Store>(
 {
     match command {
         Command::Choose { flash } => run_choose(alloc, store, flash),
+        Command::ImageMake { plan, out } => run_image_make(alloc, store, plan, out),
+        Command::ImageCheck { file } => run_image_check(alloc, store, file),
         Command::TableMake { csv, out } => run_table_make(alloc, store, csv, out),
         Command::TableShow { file } => run_table_show(alloc, store, file),
+        Command::FlashMake {
+            table,
+            image,
+            size,
+            out,
+        } => run_flash_make(alloc, store, table, image, size, out),
     }
 }

@@ -3,3 +3,4 @@ mod RefusedLemmas
 mod PlacingLemmas
 mod WholeLemmas
 mod ReadLemmas
+mod PlanLemmas

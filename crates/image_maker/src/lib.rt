@@ -5,6 +5,7 @@
 mod check;
 mod draft;
 mod image;
+mod laws;
 mod part;
 mod place;
 mod plan;
@@ -13,5 +14,6 @@ mod refusal;
 mod tests;
 
 pub use image::make;
+pub use laws::made_images_are_whole;
 pub use plan::Plan;
 pub use refusal::{MakeNo, PlanNo, PlanWhy};

@@ -1,5 +1,5 @@
 -- The lines of a table, and what is wrong with one or with its source, in words.
-use Rattle.std.specs.Prelude.{ℕ, Bool, List, [], ◌∷◌, ◌++◌, ◌==◌, ◌&&◌, nat_le, map, length, if◌then◌else◌, codes, decimal}
+use Rattle.std.specs.Prelude.{ℕ, List, [], ◌∷◌, ◌++◌, ◌==◌, ◌&&◌, nat_le, map, length, if◌then◌else◌, codes, decimal}
 use Rattle.pipe_ends.specs.Hex.{hex_text}
 use Rattle.part_csv.specs.declared.refusal.CsvWhy.{CsvWhy}
 use Rattle.part_csv.specs.declared.refusal.CsvWhy.TheVariants as why
@@ -42,9 +42,9 @@ csv_why_text why.TooManyRows = codes "toomanyrows"
 unfoldable pub csv_text : ℕ → CsvWhy → List ℕ
 csv_text number reason = codes "csv record " ++ decimal number ++ codes " " ++ csv_why_text reason
 
--- a byte of a label as it is shown: a question mark where it is no visible character
-abbrev pub label_glyph : ℕ → ℕ
-label_glyph byte = if nat_le 33 byte && nat_le byte 126 then byte else 63
+-- a byte as it is shown: a question mark where it is below the least one that is shown, or is no character
+abbrev pub glyph : ℕ → ℕ → ℕ
+glyph least byte = if nat_le least byte && nat_le byte 126 then byte else 63
 
 -- the bytes before the first zero
 abbrev pub before_zero : List ℕ → List ℕ
@@ -56,17 +56,17 @@ abbrev pub or_minus : List ℕ → List ℕ
 or_minus [] = codes "-"
 or_minus (byte ∷ bytes) = byte ∷ bytes
 
--- a label as it is shown
-unfoldable pub label_text : List ℕ → List ℕ
-label_text label = or_minus (map label_glyph (before_zero label))
+-- a text of a fixed length as it is shown, where this is the least byte that is shown
+unfoldable pub shown_text : ℕ → List ℕ → List ℕ
+shown_text least text = or_minus (map (glyph least) (before_zero text))
 
 -- a number of so many hex digits
 unfoldable pub hex_number : ℕ → ℕ → List ℕ
 hex_number digits number = codes " 0x" ++ hex_text digits number
 
--- a partition's name and type
+-- a partition's name, with a space as a question mark, and type
 unfoldable pub row_name : Row → List ℕ
-row_name row = label_text row.label ++ codes " " ++ decimal row.kind
+row_name row = shown_text 33 row.label ++ codes " " ++ decimal row.kind
 
 -- its subtype, offset, size and flags
 unfoldable pub row_numbers : Row → List ℕ

@@ -1,11 +1,13 @@
 //! Why a command is refused.
 
+use image_maker::{MakeNo, PlanWhy};
+use image_verify::BadImage;
 use part_csv::CsvWhy;
 use partition_table::TableBad;
 
 /// Why a command is refused: what is wrong in the files that it reads.
 #[derive(Clone, Copy, Debug, PartialEq, Eq)]
-pub(crate) enum Refusal {
+pub enum Refusal {
     /// The store has no file of this name. Files are numbered from 0, as the command reads them.
     Absent { file: u32 },
     /// The file isn't as long as a flash, which has 1, 2, 4, 8 or 16 MiB.
@@ -16,4 +18,10 @@ pub(crate) enum Refusal {
     Table(TableBad),
     /// The record of this number, from 1, of a table's source is wrong.
     Csv { number: u64, why: CsvWhy },
+    /// The line of this number, from 1, of an image's plan is wrong.
+    Plan { line: u64, why: PlanWhy },
+    /// The plan and its parts make no image. It is never `MakeNo::Memory`.
+    Make(MakeNo),
+    /// The file is no whole image.
+    Image(BadImage),
 }

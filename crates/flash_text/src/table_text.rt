@@ -1,12 +1,15 @@
 //! The lines of a table, and what is wrong with one or with its source, in words.
 
 ghost use Rattle.std.specs.Prelude.{◌≡◌, ◌<◌, ◌≤◌, ◌^◌, ◌++◌, OnOk, codes, decimal, map, length};
-ghost use Rattle.flash_cli.specs.TableText.{before_zero, csv_text, csv_why_text, hex_number, label_glyph, label_text, pair_text, row_line, row_lines, row_name, row_numbers, rows_line, table_bad_text};
+ghost use Rattle.flash_text.specs.TableText.{before_zero, csv_text, csv_why_text, glyph, hex_number, pair_text, row_line, row_lines, row_name, row_numbers, rows_line, shown_text, table_bad_text};
 
 use crate::text::{put_numbered, put_text};
 use part_csv::CsvWhy;
 use partition_table::{Row, TableBad};
 use pipe_ends::{Memory, put_hex, put_number};
+
+/// The first visible character, behind the space.
+const VISIBLE: u8 = 33;
 
 /// Appends what is wrong with a table.
 #[tactic(auto, unfolding(crate::specs::TableText::table_bad_text))]
@@ -30,7 +33,7 @@ pub(crate) fn put_table_bad(out: &mut Vec<u8>, why: TableBad) -> Result<(), Memo
 }
 
 /// Appends words and a small number.
-fn put_row(out: &mut Vec<u8>, text: &str, row: u8) -> Result<(), Memory>
+pub(crate) fn put_row(out: &mut Vec<u8>, text: &str, row: u8) -> Result<(), Memory>
     ensures ok { OnOk result (out.new.items ≡ out.old.items ++ (text.now ++ decimal row)) }
 {
     put_numbered(out, text, u64::from(row))
@@ -44,7 +47,7 @@ fn put_value(out: &mut Vec<u8>, text: &str, value: u32) -> Result<(), Memory>
 }
 
 /// Appends words and two numbers.
-fn put_rows(out: &mut Vec<u8>, text: &str, a: u8, b: u8) -> Result<(), Memory>
+pub(crate) fn put_rows(out: &mut Vec<u8>, text: &str, a: u8, b: u8) -> Result<(), Memory>
     ensures ok { OnOk result (out.new.items ≡ out.old.items ++ (text.now ++ pair_text a b)) }
 {
     put_text(out, text)?;
@@ -83,7 +86,7 @@ fn csv_why_text(why: CsvWhy) -> &'static str
 
 /// Appends the line that tells how many partitions there are.
 #[tactic(auto, unfolding(crate::specs::TableText::rows_line))]
-pub(crate) fn put_count(out: &mut Vec<u8>, rows: &[Row]) -> Result<(), Memory>
+pub fn put_count(out: &mut Vec<u8>, rows: &[Row]) -> Result<(), Memory>
     ensures ok { OnOk result (out.new.items ≡ out.old.items ++ rows_line rows.now) }
 {
     put_text(out, "rows ")?;
@@ -92,7 +95,7 @@ pub(crate) fn put_count(out: &mut Vec<u8>, rows: &[Row]) -> Result<(), Memory>
 }
 
 /// Appends the lines of partitions.
-pub(crate) fn put_rows_lines(out: &mut Vec<u8>, rows: &[Row]) -> Result<(), Memory>
+pub fn put_rows_lines(out: &mut Vec<u8>, rows: &[Row]) -> Result<(), Memory>
     ensures ok { OnOk result (out.new.items ≡ out.old.items ++ row_lines rows.now) }
 {
     match rows {
@@ -119,7 +122,7 @@ fn put_row_line(out: &mut Vec<u8>, row: &Row) -> Result<(), Memory>
 fn put_row_name(out: &mut Vec<u8>, row: &Row) -> Result<(), Memory>
     ensures ok { OnOk result (out.new.items ≡ out.old.items ++ row_name row.now) }
 {
-    put_label(out, &row.label)?;
+    put_shown(out, VISIBLE, &row.label)?;
     put_text(out, " ")?;
     put_number(out, u64::from(row.kind))
 }
@@ -137,7 +140,7 @@ fn put_row_numbers(out: &mut Vec<u8>, row: &Row) -> Result<(), Memory>
 
 /// Appends a number of so many hex digits.
 #[tactic(auto, unfolding(crate::specs::TableText::hex_number))]
-fn put_hex_number(out: &mut Vec<u8>, number: u64, digits: u8) -> Result<(), Memory>
+pub(crate) fn put_hex_number(out: &mut Vec<u8>, number: u64, digits: u8) -> Result<(), Memory>
     requires some { 1 ≤ digits }
     requires most { digits ≤ 16 }
     requires fits { number < 16 ^ digits }
@@ -147,40 +150,40 @@ fn put_hex_number(out: &mut Vec<u8>, number: u64, digits: u8) -> Result<(), Memo
     put_hex(out, number, digits)
 }
 
-/// Appends a label as it is shown.
-#[tactic(auto, unfolding(crate::specs::TableText::label_text))]
-fn put_label(out: &mut Vec<u8>, label: &[u8]) -> Result<(), Memory>
-    ensures ok { OnOk result (out.new.items ≡ out.old.items ++ label_text label.now) }
+/// Appends a text of a fixed length as it is shown, where this is the least byte that is shown.
+#[tactic(auto, unfolding(crate::specs::TableText::shown_text))]
+pub(crate) fn put_shown(out: &mut Vec<u8>, least: u8, text: &[u8]) -> Result<(), Memory>
+    ensures ok { OnOk result (out.new.items ≡ out.old.items ++ shown_text least text.now) }
 {
-    if label.is_empty() || label[0] == 0 {
+    if text.is_empty() || text[0] == 0 {
         put_text(out, "-")
     } else {
-        put_glyphs(out, label)
+        put_glyphs(out, least, text)
     }
 }
 
 /// Appends the bytes before the first zero, each as it is shown.
-fn put_glyphs(out: &mut Vec<u8>, label: &[u8]) -> Result<(), Memory>
+fn put_glyphs(out: &mut Vec<u8>, least: u8, text: &[u8]) -> Result<(), Memory>
     ensures ok { OnOk result
-        (out.new.items ≡ out.old.items ++ map label_glyph (before_zero label.now)) }
+        (out.new.items ≡ out.old.items ++ map (glyph least) (before_zero text.now)) }
 {
-    match label {
+    match text {
         [] => Ok(()),
         [byte, more @ ..] => {
             if *byte == 0 {
                 return Ok(());
             }
-            out.extend_from_slice(&[label_glyph(*byte)])?;
-            put_glyphs(out, more)
+            out.extend_from_slice(&[glyph(least, *byte)])?;
+            put_glyphs(out, least, more)
         }
     }
 }
 
-/// A byte of a label as it is shown.
-fn label_glyph(byte: u8) -> u8
-    ensures exact { result ≡ label_glyph byte }
+/// A byte as it is shown.
+fn glyph(least: u8, byte: u8) -> u8
+    ensures exact { result ≡ glyph least byte }
 {
-    if (33..=126).contains(&byte) {
+    if least <= byte && byte <= 126 {
         byte
     } else {
         b'?'

@@ -1,5 +1,5 @@
 use Rattle.std.proofs.Common.{length}
-use Rattle.flash_cli.proofs.table_text.+put_rows_lines.Given as goal
+use Rattle.flash_text.proofs.table_text.+put_rows_lines.Given as goal
 
 -- each call has a row less to show
 abbrev pub decreases-put_rows_lines : goal.decreases-put_rows_lines

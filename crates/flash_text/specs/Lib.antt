@@ -1,0 +1,3 @@
+pub mod TableText
+pub mod ImageText
+pub mod Text

@@ -1,0 +1,14 @@
+//! The lines that the program prints: what stands in its files, and what is wrong with them.
+#![tactic(auto)]
+
+mod image_text;
+mod refusal;
+mod table_text;
+#[cfg(test)]
+mod tests;
+mod text;
+
+pub use image_text::{put_image, put_length};
+pub use refusal::Refusal;
+pub use table_text::{put_count, put_rows_lines};
+pub use text::{put_entry, put_names, put_refusal, put_text};

@@ -1,0 +1,177 @@
+//! Texts from outside: each refusal by its line.
+
+use crate::{Refusal, put_refusal};
+use image_maker::{MakeNo, PlanWhy};
+use image_verify::BadImage;
+use part_csv::CsvWhy;
+use partition_table::TableBad;
+use std::alloc::Global;
+use std::test::Fail;
+
+/// The refusals of files, tables and their sources.
+fn of_tables<'a>() -> [(Refusal, &'a str); 17] {
+    [
+        (Refusal::Absent { file: 4 }, "absent "),
+        (Refusal::FlashSize { size: 3 }, "flash size 3"),
+        (Refusal::TableLength { length: 100 }, "table length 100"),
+        (
+            Refusal::Table(TableBad::Magic { row: 5 }),
+            "table magic row 5",
+        ),
+        (Refusal::Table(TableBad::Md5 { row: 6 }), "table md5 row 6"),
+        (Refusal::Table(TableBad::NoEnd), "table no end"),
+        (
+            Refusal::Table(TableBad::Align { row: 1 }),
+            "table align row 1",
+        ),
+        (
+            Refusal::Table(TableBad::Range { row: 3 }),
+            "table range row 3",
+        ),
+        (
+            Refusal::Table(TableBad::Overlap { a: 0, b: 12 }),
+            "table overlap rows 0 12",
+        ),
+        (
+            Refusal::Table(TableBad::TwoOf { a: 2, b: 3 }),
+            "table two rows 2 3",
+        ),
+        (Refusal::Table(TableBad::NoOtadata), "table no otadata"),
+        (
+            Refusal::Table(TableBad::OtadataSize { size: 0x1000 }),
+            "table otadata size 4096",
+        ),
+        (
+            Refusal::Table(TableBad::OtadataFlags { flags: 1 }),
+            "table otadata flags 1",
+        ),
+        (Refusal::Table(TableBad::NoFactory), "table no factory"),
+        (
+            Refusal::Table(TableBad::SlotGap { slot: 1 }),
+            "table slot gap 1",
+        ),
+        (
+            Refusal::Csv {
+                number: 95,
+                why: CsvWhy::TooManyRows,
+            },
+            "csv record 95 toomanyrows",
+        ),
+        (
+            Refusal::Csv {
+                number: 2,
+                why: CsvWhy::SameName,
+            },
+            "csv record 2 samename",
+        ),
+    ]
+}
+
+/// The refusals of the lines of a plan.
+fn of_plans<'a>() -> [(PlanWhy, &'a str); 8] {
+    [
+        (PlanWhy::Word, "plan line 7 word"),
+        (PlanWhy::Count, "plan line 7 count"),
+        (PlanWhy::Number, "plan line 7 number"),
+        (PlanWhy::Choice, "plan line 7 choice"),
+        (PlanWhy::Twice, "plan line 7 twice"),
+        (PlanWhy::TooMany, "plan line 7 toomany"),
+        (PlanWhy::Name, "plan line 7 name"),
+        (PlanWhy::NoEntry, "plan line 7 noentry"),
+    ]
+}
+
+/// The refusals of a plan's parts and of images.
+fn of_images<'a>() -> [(Refusal, &'a str); 18] {
+    let short = BadImage::Short { have: 79, need: 80 };
+    let trailing = BadImage::Trailing { have: 81, need: 80 };
+    let length = BadImage::Length {
+        segment: 15,
+        length: 0xFFFF_FFFF,
+    };
+    let address = BadImage::Address {
+        segment: 1,
+        load: 0x400D_ABCD,
+    };
+    let large = BadImage::TooLarge {
+        need: 1_048_592,
+        limit: 1_048_576,
+    };
+    let checksum = BadImage::Checksum {
+        stored: 0x0B,
+        computed: 0xEA,
+    };
+    [
+        (Refusal::Make(MakeNo::NoSegments), "make no segments"),
+        (
+            Refusal::Make(MakeNo::OddLength { segment: 0 }),
+            "make odd length 0",
+        ),
+        (
+            Refusal::Make(MakeNo::OddAddress { segment: 1 }),
+            "make odd address 1",
+        ),
+        (
+            Refusal::Make(MakeNo::SpaceEnd { segment: 2 }),
+            "make space end 2",
+        ),
+        (
+            Refusal::Make(MakeNo::Overlap { a: 3, b: 10 }),
+            "make overlap 3 10",
+        ),
+        (
+            Refusal::Make(MakeNo::TooManySegments { n: 17 }),
+            "make segments 17",
+        ),
+        (
+            Refusal::Make(MakeNo::TooLong { n: 16_777_232 }),
+            "make too long 16777232",
+        ),
+        (
+            Refusal::Image(BadImage::Magic { byte: 0x0A }),
+            "image magic 0x0A",
+        ),
+        (
+            Refusal::Image(BadImage::Segments { n: 17 }),
+            "image segments 17",
+        ),
+        (
+            Refusal::Image(BadImage::Chip { id: 65535 }),
+            "image chip 65535",
+        ),
+        (
+            Refusal::Image(BadImage::Flag { byte: 2 }),
+            "image flag 0x02",
+        ),
+        (Refusal::Image(length), "image length 15 4294967295"),
+        (Refusal::Image(address), "image address 1 0x400DABCD"),
+        (Refusal::Image(large), "image too large 1048592 1048576"),
+        (Refusal::Image(short), "image short 79 80"),
+        (Refusal::Image(trailing), "image trailing 81 80"),
+        (Refusal::Image(checksum), "image checksum 0x0B 0xEA"),
+        (Refusal::Image(BadImage::Digest), "image digest"),
+    ]
+}
+
+/// Whether the line of a refusal is this text.
+fn is_line(alloc: Global, why: Refusal, text: &str) -> Result<bool, Fail> {
+    let mut line = Vec::new(alloc);
+    put_refusal(&mut line, "", why)?;
+    let wanted = format!(in alloc; "refused: {text}\n")?;
+    Ok(line.as_slice() == wanted.as_bytes())
+}
+
+#[test]
+fn each_refusal_has_its_line(rt: HostRuntime) -> Result<(), Fail> {
+    for (why, text) in of_tables() {
+        assert_eq!(rt; is_line(rt.alloc(), why, text)?, true, "{text}");
+    }
+    for (why, text) in of_plans() {
+        let why = Refusal::Plan { line: 7, why };
+        assert_eq!(rt; is_line(rt.alloc(), why, text)?, true, "{text}");
+    }
+    for (why, text) in of_images() {
+        assert_eq!(rt; is_line(rt.alloc(), why, text)?, true, "{text}");
+    }
+    Ok(())
+}
