@@ -189,3 +189,15 @@ pub no_page : (at : ℕ) (bytes : List ℕ) → (IsPageLength (take (room_at at)
 no_page at [] none = no_steps at
 no_page at (b ∷ bytes) none =
     absurd (let size = length-take (room_at at) (b ∷ bytes) in none (omega (arith, size), omega (arith, size)))
+
+-- bytes that end in the page in which they begin are one program
+pub one_program : (at : ℕ) (bytes : List ℕ) → 1 ≤ length bytes → at % 256 + length bytes ≤ 256
+    → write_steps at bytes ≡ Program at bytes ∷ []
+one_program at bytes some short =
+    let room = room_at at in
+    let whole : take room bytes ≡ bytes = take_all room bytes (omega arith) in
+    let gone : drop room bytes ≡ [] = drop_all room bytes (omega arith) in
+    write_next at bytes some
+    ∙ ap (λ bs. Program at (take room bytes) ∷ write_steps (at + length (take room bytes)) bs) gone
+    ∙ ap (λ steps. Program at (take room bytes) ∷ steps) (no_steps (at + length (take room bytes)))
+    ∙ ap (λ bs. Program at bs ∷ []) whole

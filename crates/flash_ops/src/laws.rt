@@ -1,6 +1,6 @@
 //! What the steps of every write and every erase make of a flash.
 
-ghost use Rattle.std.specs.Prelude.{◌≡◌, ◌≤◌, ◌<◌, ◌+◌, ◌/◌, ◌%◌, ℕ, All, List, ◌++◌, length, replicate};
+ghost use Rattle.std.specs.Prelude.{◌≡◌, ◌≤◌, ◌<◌, ◌+◌, ◌/◌, ◌%◌, ℕ, All, List, [], ◌∷◌, ◌++◌, length, replicate};
 ghost use Rattle.std.specs.List.{AllByRecursion};
 ghost use Rattle.nor_device.specs.declared.step.Step.TheVariants.{Program};
 ghost use Rattle.nor_device.specs.Flash.{after_steps, applied};
@@ -12,6 +12,8 @@ ghost use Rattle.flash_ops.specs.Steps.{FollowOn, IsErase, IsErasedAt, IsPagePro
 pub fn laws_of_writes()
     ensures count { (at : ℕ) (bytes : List ℕ)
         → length (write_steps at bytes) ≡ pages_in at (length bytes) }
+    ensures one { (at : ℕ) (bytes : List ℕ) → 1 ≤ length bytes
+        → at % 256 + length bytes ≤ 256 → write_steps at bytes ≡ Program at bytes ∷ [] }
     ensures pages { (at : ℕ) (bytes : List ℕ)
         → AllByRecursion IsPageProgram (write_steps at bytes) }
     ensures follow { (at : ℕ) (bytes : List ℕ)

@@ -5,6 +5,8 @@ mod laws;
 mod refusal;
 mod rules;
 mod steps;
+#[cfg(test)]
+mod tests;
 
 pub use laws::{laws_of_erases, laws_of_writes};
 pub use refusal::OpNo;

@@ -9,7 +9,6 @@ use nor_device::{Page, Step};
 /// The first program of a write of bytes from an address on, and the bytes behind it, which are
 /// written where it ends; none where there is no byte.
 pub fn next_program(at: u32, bytes: &[u8]) -> Option<(Step, &[u8])>
-    requires small { at + length bytes.now ≤ 2 ^ 32 }
     ensures exact { MatchOption result (write_steps at bytes.now ≡ [])
         (λ next. write_steps at bytes.now
         ≡ next.0 ∷ write_steps (end_of next.0) next.1.now) }
