@@ -1,0 +1,6 @@
+pub mod Room
+pub mod JournalView
+pub mod Fetch
+pub mod Log
+pub mod Hub
+pub mod HubView

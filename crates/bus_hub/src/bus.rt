@@ -1,0 +1,80 @@
+//! The bus: what both cores share, and what it stands for.
+
+ghost use Rattle.std.specs.Prelude.{◌≡◌, ◌<◌, None, [], Some, IfSome, List};
+ghost use Rattle.core_state.specs.Registers.{starting};
+ghost use Rattle.bus_hub.specs.declared.did.Base.{Base};
+ghost use Rattle.bus_hub.specs.declared.did.Did.{Did};
+ghost use Rattle.bus_hub.specs.Hub.{Hub, Stands, IsBaseOf, record_of, core_of};
+
+use crate::did::{Base, Did, Running};
+use crate::duty::Duty;
+use crate::journal::Journal;
+use core_state::{Record, Records};
+use crash_images::Crash;
+use mmu_map::Pages;
+use std::marker::Model;
+
+/// The device with the pages that the cache shows of it, the journal, the duty, and both cores' registers.
+#[derive(Drop)]
+pub struct Bus<D: Crash, K: Duty> {
+    dev: D,
+    pages: Pages,
+    journal: Journal,
+    duty: K,
+    running: Option<Running>,
+    left: Record,
+    right: Record,
+}
+
+// Clauses see the parts as one record.
+impl<D: Crash, K: Duty> Model for Bus<D, K> {
+    ghost use Rattle.bus_hub.specs.Hub.{Hub};
+
+    ghost Value = { Hub D K };
+
+    ghost use Rattle.bus_hub.specs.HubView.{IsHub};
+
+    ghost view = { λ b. record {
+        dev = b.dev;
+        map = b.pages;
+        journal = b.journal;
+        duty = b.duty;
+        running = b.running;
+        left = b.left;
+        right = b.right;
+    } };
+
+    ghost invariant = { λ b. IsHub D.bytes D.running K.part K.grants (record {
+        dev = b.dev;
+        map = b.pages;
+        journal = b.journal;
+        duty = b.duty;
+        running = b.running;
+        left = b.left;
+        right = b.right;
+    }) };
+}
+
+impl<D: Crash, K: Duty> Records for Bus<D, K> {
+    type Base = Base<D::Setting, K>;
+
+    type Did = Did;
+
+    ghost records = { record_of };
+
+    ghost runs = { λ b. core_of b.running };
+
+    ghost stands = { Stands D.bytes D.off D.steps D.faults D.setting D.may_end D.may_tear
+        D.may_refuse D.must_refuse K.part K.grants K.after K.good };
+
+    fn record(&self, core: u8) -> Record {
+        if core == 0 { self.left } else { self.right }
+    }
+
+    fn running(&self) -> Option<u8> {
+        match &self.running {
+            None => None,
+            Some(run) => Some(run.core),
+        }
+    }
+}

@@ -1,0 +1,14 @@
+//! The bus between the two cores and the flash: device, pages, journal and duty.
+#![tactic(auto)]
+
+mod bus;
+mod did;
+mod duty;
+mod entry;
+mod journal;
+
+pub use bus::Bus;
+pub use did::{Base, Did, Running};
+pub use duty::{AnyDuty, AnyPart, Duty};
+pub use entry::{Act, Entry, Why};
+pub use journal::{Journal, Memory, Room};
