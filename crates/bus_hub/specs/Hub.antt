@@ -1,6 +1,7 @@
 -- The bus as contracts see it, and what it stands for.
 use Rattle.std.specs.Prelude.{◌≡◌, ℕ, zero, suc, ◌+◌, ◌≤◌, Bool, true, false, List, [], ◌∷◌, length, Option, Some, None}
 use Rattle.core_state.specs.declared.registers.Record.{Record}
+use Rattle.core_state.specs.declared.registers.Regs.{Regs}
 use Rattle.core_state.specs.Registers.{starting}
 use Rattle.nor_device.specs.declared.step.Step.{Step}
 use Rattle.nor_device.specs.declared.nor.StepEnd.{StepEnd}
@@ -11,8 +12,9 @@ use Rattle.bus_hub.specs.declared.did.Running.{Running}
 use Rattle.bus_hub.specs.declared.did.Did.{Did}
 use Rattle.bus_hub.specs.declared.did.Did.TheVariants.{Opened, Closed, Broken, Fetched, Noted, Denied, Mapping, Unmapping, Missed, Masked}
 use Rattle.bus_hub.specs.declared.did.Base.{Base}
-use Rattle.bus_hub.specs.Room.{Kept}
-use Rattle.bus_hub.specs.Log.{State, Stood}
+use Rattle.bus_hub.specs.declared.entry.Act.{Act}
+use Rattle.bus_hub.specs.Room.{Kept, with_entry}
+use Rattle.bus_hub.specs.Log.{State, Stood, entry_of}
 
 -- device, pages, journal, duty, the step that runs, and the registers of both cores
 pub record Hub (D K : Type 0) : Type 0 where
@@ -58,6 +60,10 @@ module _ {D K : Type 0} where
     entries = h.journal.entries;
     bytes = h.journal.bytes;
   }
+
+  -- the bus with one more entry of a core
+  abbrev pub noted : Hub D K → ℕ → ℕ → Regs → Act → Hub D K
+  noted h c k regs act = record h { journal = with_entry h.journal (entry_of c k regs act) }
 
 -- where the log begins
 abbrev pub begun : {S K : Type 0} → Base S K → State K

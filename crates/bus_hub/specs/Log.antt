@@ -45,6 +45,17 @@ opening step = Open (is_erase step) (start_of step) (len_of step)
 abbrev pub run_of : ℕ → ℕ → Step → Running
 run_of core k step = record { core = core; k = k; step = step }
 
+-- an act that a core notes by itself
+abbrev pub IsNote : Act → Type 0
+IsNote (Open erase at len) = ⊥
+IsNote (Close end) = ⊥
+IsNote (Fetch at start len) = ⊥
+IsNote Set = ⊥
+IsNote (Mapped at) = Unit {0}
+IsNote (Unmapped at) = Unit {0}
+IsNote Wrote = Unit {0}
+IsNote (Refused why) = Unit {0}
+
 -- an act that is neither a step's nor a fetch
 abbrev pub IsPlain : Act → Type 0
 IsPlain (Open erase at len) = ⊥

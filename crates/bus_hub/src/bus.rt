@@ -17,13 +17,13 @@ use std::marker::Model;
 /// The device with the pages that the cache shows of it, the journal, the duty, and both cores' registers.
 #[derive(Drop)]
 pub struct Bus<D: Crash, K: Duty> {
-    dev: D,
-    pages: Pages,
-    journal: Journal,
-    duty: K,
-    running: Option<Running>,
-    left: Record,
-    right: Record,
+    pub(crate) dev: D,
+    pub(crate) pages: Pages,
+    pub(crate) journal: Journal,
+    pub(crate) duty: K,
+    pub(crate) running: Option<Running>,
+    pub(crate) left: Record,
+    pub(crate) right: Record,
 }
 
 // Clauses see the parts as one record.
@@ -44,7 +44,7 @@ impl<D: Crash, K: Duty> Model for Bus<D, K> {
         right = b.right;
     } };
 
-    ghost invariant = { λ b. IsHub D.bytes D.running K.part K.grants (record {
+    ghost invariant = { λ b. IsHub D.bytes D.running D.off K.part K.grants (record {
         dev = b.dev;
         map = b.pages;
         journal = b.journal;

@@ -6,6 +6,7 @@ mod did;
 mod duty;
 mod entry;
 mod journal;
+mod registers;
 
 pub use bus::Bus;
 pub use did::{Base, Did, Running};
