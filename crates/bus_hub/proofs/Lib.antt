@@ -1,3 +1,4 @@
 pub mod Logs
 pub mod Adds
 pub mod Quiet
+pub mod Stepping

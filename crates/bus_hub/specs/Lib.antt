@@ -4,3 +4,4 @@ pub mod Fetch
 pub mod Log
 pub mod Hub
 pub mod HubView
+pub mod Told

@@ -6,7 +6,9 @@ mod did;
 mod duty;
 mod entry;
 mod journal;
+mod maps;
 mod registers;
+mod steps;
 
 pub use bus::Bus;
 pub use did::{Base, Did, Running};

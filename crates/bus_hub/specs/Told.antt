@@ -1,0 +1,112 @@
+-- What the calls say of the bus, and which items they add.
+use Rattle.std.specs.Prelude.{◌≡◌, ℕ, Bool, true, false, List, [], ◌∷◌, Option, Some, None, IfSome, Result, Ok, Err, OnOk, OnErr, IfErr}
+use Rattle.core_state.specs.declared.registers.Record.{Record}
+use Rattle.core_state.specs.declared.registers.Regs.{Regs}
+use Rattle.nor_device.specs.declared.step.Step.{Step}
+use Rattle.nor_device.specs.declared.nor.Ready.{Ready}
+use Rattle.nor_device.specs.declared.nor.Ready.TheVariants as answers
+use Rattle.nor_device.specs.declared.nor.StepEnd.{StepEnd}
+use Rattle.nor_device.specs.declared.nor.StepEnd.TheVariants as ends
+use Rattle.nor_device.specs.declared.nor.NorFault.{NorFault}
+use Rattle.nor_device.specs.Nor.{one_more, end_by, HasCause, IsMade, IsLeftTorn}
+use Rattle.bus_hub.specs.declared.entry.Act.TheVariants.{Close, Set}
+use Rattle.bus_hub.specs.declared.did.Running.{Running}
+use Rattle.bus_hub.specs.declared.did.Did.{Did}
+use Rattle.bus_hub.specs.declared.did.Did.TheVariants.{Opened, Closed, Broken, Fetched, Noted, Denied}
+use Rattle.bus_hub.specs.Room.{with_entry}
+use Rattle.bus_hub.specs.Log.{entry_of, opening, run_of}
+use Rattle.bus_hub.specs.Hub.{Hub, record_of, with_record, noted, step_of}
+
+-- what a read adds: a mark where it was refused
+abbrev pub asked : Result (Unit {0}) NorFault → List Did
+asked (Ok _) = []
+asked (Err why) = Denied why ∷ []
+
+-- what the begin of a step adds
+abbrev pub started : ℕ → Regs → Step → Result (Unit {0}) NorFault → List Did
+started k regs step (Ok _) = Opened k regs step ∷ []
+started k regs step (Err why) = Denied why ∷ []
+
+-- what a poll adds, where the device holds these bytes after it
+abbrev pub polled : ℕ → Regs → List ℕ → Result Ready NorFault → List Did
+polled k regs left (Ok answers.Busy) = []
+polled k regs left (Ok answers.Ready) = Closed k regs ∷ []
+polled k regs left (Err why) = Broken k regs why left ∷ []
+
+-- the number of the action whose step runs
+abbrev pub number_of : Option Running → ℕ
+number_of None = 0
+number_of (Some run) = run.k
+
+-- the bytes that a device tells
+abbrev pub held : Option (List ℕ) → List ℕ
+held None = []
+held (Some flash) = flash
+
+module _ {D K : Type 0} where
+  -- the bus with another device
+  abbrev pub with_device : Hub D K → D → Hub D K
+  with_device h dev = record h { dev = dev }
+
+  -- the bus with these registers of a core in force
+  abbrev pub set_to : Hub D K → ℕ → Regs → Hub D K
+  set_to h c regs = with_record h c (record (record_of h c) { regs = regs })
+
+  -- the bus once a step of the core runs
+  abbrev pub running_step : Hub D K → ℕ → ℕ → Step → D → Hub D K
+  running_step h c k step dev =
+      record (noted h c k (record_of h c).regs (opening step)) {
+        dev = dev;
+        running = Some (run_of c k step);
+      }
+
+  -- the bus once that step has ended so, by this duty
+  abbrev pub ended_step : Hub D K → Running → Regs → StepEnd → K → D → Hub D K
+  ended_step h run regs end duty dev =
+      record (noted h run.core run.k regs (Close end)) { dev = dev; duty = duty; running = None }
+
+  -- the bus after a poll that answered so
+  abbrev pub after_poll : (K → ℕ → Step → K) → Hub D K → Running → Regs → Result Ready NorFault
+      → D → Hub D K
+  after_poll after h run regs (Ok answers.Busy) dev = with_device h dev
+  after_poll after h run regs (Ok answers.Ready) dev =
+      ended_step h run regs ends.Done (after h.duty run.core run.step) dev
+  after_poll after h run regs (Err why) dev = ended_step h run regs (end_by why) h.duty dev
+
+module _ {D S : Type 0}
+    (bytes : D → Option (List ℕ)) (off : D → Bool) (steps faults : D → ℕ) (setting : D → S)
+    (may_refuse : S → ℕ → NorFault → Type 0) (must_refuse : S → ℕ → Type 0) where
+  -- what a read says of the device
+  pub record Asks (old new : D) (r : Result (Unit {0}) NorFault) : Type 0 where
+    pub told : bytes new ≡ bytes old
+    pub steps_same : steps new ≡ steps old
+    pub setting_same : setting new ≡ setting old
+    pub allowed : IfErr r (may_refuse (setting old) (steps old))
+    pub stopped : OnOk r (¬ must_refuse (setting old) (steps old))
+    pub cause : HasCause (faults old) (faults new) (off new) r
+
+  -- what the begin of a step says of it
+  pub record Starts (old new : D) (r : Result (Unit {0}) NorFault) : Type 0 where
+    pub told : bytes new ≡ bytes old
+    pub counted : OnOk r (steps new ≡ one_more (steps old))
+    pub not_counted : OnErr r (steps new ≡ steps old)
+    pub setting_same : setting new ≡ setting old
+    pub allowed : IfErr r (may_refuse (setting old) (steps old))
+    pub stopped : OnOk r (¬ must_refuse (setting old) (steps old))
+    pub cause : HasCause (faults old) (faults new) (off new) r
+
+module _ {D S : Type 0}
+    (bytes : D → Option (List ℕ)) (off : D → Bool) (steps faults : D → ℕ) (setting : D → S)
+    (may_end : S → ℕ → StepEnd → Type 0) (may_tear : S → ℕ → List ℕ → Step → List ℕ → Type 0) where
+  -- what a poll says of it
+  pub record Polls (old new : D) (running : Option Step) (r : Result Ready NorFault) : Type 0 where
+    pub powered : off old ≡ false
+    pub busy : r ≡ Ok answers.Busy → bytes new ≡ bytes old
+    pub made : r ≡ Ok answers.Ready → IsMade running (bytes old) (bytes new)
+    pub done : r ≡ Ok answers.Ready → may_end (setting old) (steps old) ends.Done
+    pub torn : OnErr r (IsLeftTorn (may_tear (setting old) (steps old)) running (bytes old)
+        (bytes new))
+    pub ended : IfErr r (λ why. may_end (setting old) (steps old) (end_by why))
+    pub steps_same : steps new ≡ steps old
+    pub setting_same : setting new ≡ setting old
+    pub cause : HasCause (faults old) (faults new) (off new) r
