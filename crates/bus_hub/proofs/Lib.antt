@@ -2,3 +2,5 @@ pub mod Logs
 pub mod Adds
 pub mod Quiet
 pub mod Stepping
+pub mod Goodness
+pub mod Opening

@@ -26,6 +26,11 @@ pub record Hub (D K : Type 0) : Type 0 where
   pub left : Record
   pub right : Record
 
+-- the bytes of a device are told
+pub record IsTold (told : Option (List ℕ)) : Type 0 where
+  pub flash : List ℕ
+  pub is : told ≡ Some flash
+
 -- the step that runs
 abbrev pub step_of : Option Running → Option Step
 step_of None = None
@@ -37,6 +42,18 @@ core_of None = None
 core_of (Some run) = Some run.core
 
 module _ {D K : Type 0} where
+  -- a bus that was just made
+  abbrev pub opened : D → Map → Kept → K → Hub D K
+  opened dev map journal duty = record {
+    dev = dev;
+    map = map;
+    journal = journal;
+    duty = duty;
+    running = None;
+    left = starting;
+    right = starting;
+  }
+
   -- the registers of a core
   abbrev pub record_of : Hub D K → ℕ → Record
   record_of h zero = h.left
@@ -159,6 +176,8 @@ module _ {D S K P : Type 0}
     pub stood : Stood may_end may_tear may_refuse must_refuse part grants after b.setting (begun b)
         (state_of h flash (steps h.dev) noted is_off) left right
 
+module _ {D S K : Type 0}
+    (bytes : D → Option (List ℕ)) (off : D → Bool) (steps faults : D → ℕ) (setting : D → S) where
   -- what a base is that a bus is made for
   pub record IsBaseOf (b : Base S K) (dev : D) (map : Map) (journal : Kept) (duty : K)
       : Type 0 where

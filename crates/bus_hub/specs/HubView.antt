@@ -4,12 +4,7 @@ use Rattle.nor_device.specs.declared.step.Step.{Step}
 use Rattle.bus_hub.specs.declared.did.Running.{Running}
 use Rattle.bus_hub.specs.declared.bus.Bus.TheInside.{Inside}
 use Rattle.bus_hub.specs.Room.{Kept, HasRoom}
-use Rattle.bus_hub.specs.Hub.{Hub, step_of, owed}
-
--- the bytes of a device are told
-pub record IsTold (told : Option (List ℕ)) : Type 0 where
-  pub flash : List ℕ
-  pub is : told ≡ Some flash
+use Rattle.bus_hub.specs.Hub.{Hub, IsTold, step_of, owed}
 
 -- the step that runs is one that its core was allowed
 abbrev pub IsGranted : {K P : Type 0} → (K → ℕ → P) → (P → Step → Type 0) → K → Option Running

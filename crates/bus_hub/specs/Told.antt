@@ -12,6 +12,7 @@ use Rattle.nor_device.specs.Nor.{one_more, end_by, HasCause, IsMade, IsLeftTorn}
 use Rattle.bus_hub.specs.declared.entry.Act.TheVariants.{Close, Set}
 use Rattle.bus_hub.specs.declared.did.Running.{Running}
 use Rattle.bus_hub.specs.declared.did.Did.{Did}
+use Rattle.bus_hub.specs.declared.did.Base.{Base}
 use Rattle.bus_hub.specs.declared.did.Did.TheVariants.{Opened, Closed, Broken, Fetched, Noted, Denied}
 use Rattle.bus_hub.specs.Room.{with_entry}
 use Rattle.bus_hub.specs.Log.{entry_of, opening, run_of}
@@ -110,3 +111,10 @@ module _ {D S : Type 0}
     pub steps_same : steps new ≡ steps old
     pub setting_same : setting new ≡ setting old
     pub cause : HasCause (faults old) (faults new) (off new) r
+
+-- every flash that a loss of power may leave now is good by the duty, for each base and shares that the bus stands for
+abbrev pub IsSafe : {D S K : Type 0} → (Hub D K → Base S K → List Did → List Did → Type 0)
+    → (D → List ℕ → Type 0) → (List ℕ → K → List ℕ → Type 0) → Hub D K → Type 0
+IsSafe {D} {S} {K} stands may_leave good h =
+    (b : Base S K) (left right : List Did) (flash : List ℕ) → stands h b left right
+    → may_leave h.dev flash → good b.flash h.duty flash

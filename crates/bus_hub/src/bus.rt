@@ -1,10 +1,11 @@
 //! The bus: what both cores share, and what it stands for.
 
-ghost use Rattle.std.specs.Prelude.{◌≡◌, ◌<◌, None, [], Some, IfSome, List};
+ghost use Rattle.std.specs.Prelude.{◌≡◌, ℕ, ◌<◌, None, [], Some, IfSome, List};
 ghost use Rattle.core_state.specs.Registers.{starting};
 ghost use Rattle.bus_hub.specs.declared.did.Base.{Base};
 ghost use Rattle.bus_hub.specs.declared.did.Did.{Did};
-ghost use Rattle.bus_hub.specs.Hub.{Hub, Stands, IsBaseOf, record_of, core_of};
+ghost use Rattle.bus_hub.specs.Room.{empty_journal};
+ghost use Rattle.bus_hub.specs.Hub.{Hub, Stands, IsBaseOf, IsTold, opened, record_of, core_of};
 
 use crate::did::{Base, Did, Running};
 use crate::duty::Duty;
@@ -76,5 +77,52 @@ impl<D: Crash, K: Duty> Records for Bus<D, K> {
             None => None,
             Some(run) => Some(run.core),
         }
+    }
+}
+
+impl<D: Crash, K: Duty> Bus<D, K> {
+    /// A bus over an idle device whose flash is good, with an empty journal. Both cores have their registers at
+    /// reset saved. It stands for its base and no shares.
+    pub fn new(dev: D, pages: Pages, journal: Journal, duty: K) -> Bus<D, K>
+        requires idle { D.running dev ≡ None }
+        requires told { IsTold (D.bytes dev) }
+        requires good { (flash : List ℕ) → D.bytes dev ≡ Some flash → K.good flash duty flash }
+        requires empty { journal ≡ empty_journal journal.left_room journal.right_room }
+        ensures exact { result ≡ opened dev pages journal duty }
+        ensures stands { (b : Base D.Setting K) → IsBaseOf D.bytes D.off D.steps D.faults D.setting b dev pages journal duty
+            → ⟦<Bus<D, K> as Records>⟧.stands result b [] [] }
+    {
+        Bus {
+            dev,
+            pages,
+            journal,
+            duty,
+            running: None,
+            left: Record::starting(),
+            right: Record::starting(),
+        }
+    }
+
+    /// Gives device, journal and duty back.
+    pub fn into_parts(self) -> (D, Journal, K)
+        requires idle { self.running ≡ None }
+        ensures exact { result ≡ (self.dev, self.journal, self.duty) }
+        ensures idle { D.running result.0 ≡ None }
+    {
+        (self.dev, self.journal, self.duty)
+    }
+
+    /// The duty.
+    pub fn duty(&self) -> &K
+        ensures exact { result.now ≡ self.now.duty }
+    {
+        &self.duty
+    }
+
+    /// The entries so far.
+    pub fn journal(&self) -> &Journal
+        ensures exact { result.now ≡ self.now.journal }
+    {
+        &self.journal
     }
 }

@@ -6,7 +6,9 @@ mod did;
 mod duty;
 mod entry;
 mod journal;
+mod laws;
 mod maps;
+mod reads;
 mod registers;
 mod steps;
 
