@@ -4,3 +4,5 @@ pub mod Quiet
 pub mod Stepping
 pub mod Goodness
 pub mod Opening
+pub mod Spans
+pub mod Fetching

@@ -65,22 +65,19 @@ powered off stops on = record {
   false_true is = cc
 
 module _ {D S K P : Type 0}
-    (bytes : D → Option (List ℕ)) (off : D → Bool) (steps faults : D → ℕ) (setting : D → S)
-    (may_end : S → ℕ → StepEnd → Type 0) (may_tear : S → ℕ → List ℕ → Step → List ℕ → Type 0)
+    (bytes : D → Option (List ℕ)) (off : D → Bool) (steps faults : D → ℕ)
+    (setting : D → S) (may_end : S → ℕ → StepEnd → Type 0) (may_tear : S → ℕ → List ℕ → Step → List ℕ → Type 0)
     (may_refuse : S → ℕ → NorFault → Type 0) (must_refuse : S → ℕ → Type 0)
     (part : K → ℕ → P) (grants : P → Step → Type 0) (after : K → ℕ → Step → K)
     (good : List ℕ → K → List ℕ → Type 0) where
   abbrev pub StandsBy : Hub D K → Base S K → List Did → List Did → Type 0
   StandsBy = Stands bytes off steps faults setting may_end may_tear may_refuse must_refuse part grants after good
 
-  abbrev Asking : D → D → Result (Unit {0}) NorFault → Type 0
-  Asking = Asks bytes off steps faults setting may_refuse must_refuse
-
   abbrev Starting : D → D → Result (Unit {0}) NorFault → Type 0
   Starting = Starts bytes off steps faults setting may_refuse must_refuse
 
   -- a refused read or start is a mark
-  denied : (old : Hub D K) (dev : D) (c : ℕ) (why : NorFault) → c < 2 → old.running ≡ None
+  pub denied : (old : Hub D K) (dev : D) (c : ℕ) (why : NorFault) → c < 2 → old.running ≡ None
       → bytes dev ≡ bytes old.dev → steps dev ≡ steps old.dev → setting dev ≡ setting old.dev
       → may_refuse (setting old.dev) (steps old.dev) why
       → HasCause {T = Unit {0}} (faults old.dev) (faults dev) (off dev) (Err why)
@@ -102,35 +99,6 @@ module _ {D S K P : Type 0}
         leads = ap (λ (n : ℕ). state_of (with_device old dev) flash n (noted_by why noted) (off_by why))
             (sym count);
       })
-
-  -- a read
-  pub reads : (old new : Hub D K) (c : ℕ) (r : Result (Unit {0}) NorFault) → c < 2
-      → old.running ≡ None → new ≡ with_device old new.dev → Asking old.dev new.dev r
-      → GoesOn StandsBy Fits old new c (asked r)
-  reads old new c (Err why) small idle is a =
-      subst (λ (h : Hub D K). GoesOn StandsBy Fits old h c (Denied why ∷ [])) (sym is)
-      (denied old new.dev c why small idle a.told a.steps_same a.setting_same a.allowed a.cause)
-  reads old new c (Ok u) small idle is a =
-      subst (λ (h : Hub D K). GoesOn StandsBy Fits old h c []) (sym is)
-      (still bytes off steps faults setting may_end may_tear may_refuse must_refuse part grants after good
-      old (with_device old new.dev) c (λ flash noted is_off told counted power. record {
-        told = a.told ∙ told;
-        counted = omega (arith, counted, a.cause.later);
-        power = record {
-          went_off = λ is. absurd (clash is);
-          came_back = λ is on. subst (λ (n : ℕ). ¬ must_refuse (setting old.dev) n) (sym a.steps_same)
-              a.stopped;
-        };
-        setting_same = a.setting_same;
-        left_room = refl;
-        right_room = refl;
-        leads = ap (λ (n : ℕ). state_of (with_device old new.dev) flash n noted is_off)
-            (sym a.steps_same);
-      })) where
-    clash : off new.dev ≡ true → ⊥
-    clash is =
-        let on : off new.dev ≡ false = power_on u (faults old.dev) (faults new.dev) (off new.dev) a.cause in
-        cc
 
   -- the begin of a step
   pub begins : (old new : Hub D K) (c k : ℕ) (regs : Regs) (step : Step)
@@ -309,3 +277,36 @@ module _ {D S K P : Type 0}
         (polled (number_of o) (record_of old c).regs (held (bytes new.dev)) r)) (sym runs)
         (subst (λ (n : ℕ). GoesOn StandsBy Fits old new n
         (polled run.k (record_of old c).regs (held (bytes new.dev)) r)) at found)
+
+  module _ (size : D → ℕ) where
+    abbrev Asking : D → D → Result (Unit {0}) NorFault → Type 0
+    Asking = Asks bytes size off steps faults setting may_refuse must_refuse
+
+    -- a read
+    pub reads : (old new : Hub D K) (c : ℕ) (r : Result (Unit {0}) NorFault) → c < 2
+        → old.running ≡ None → new ≡ with_device old new.dev → Asking old.dev new.dev r
+        → GoesOn StandsBy Fits old new c (asked r)
+    reads old new c (Err why) small idle is a =
+        subst (λ (h : Hub D K). GoesOn StandsBy Fits old h c (Denied why ∷ [])) (sym is)
+        (denied old new.dev c why small idle a.told a.steps_same a.setting_same a.allowed a.cause)
+    reads old new c (Ok u) small idle is a =
+        subst (λ (h : Hub D K). GoesOn StandsBy Fits old h c []) (sym is)
+        (still bytes off steps faults setting may_end may_tear may_refuse must_refuse part grants after good
+        old (with_device old new.dev) c (λ flash noted is_off told counted power. record {
+          told = a.told ∙ told;
+          counted = omega (arith, counted, a.cause.later);
+          power = record {
+            went_off = λ is. absurd (clash is);
+            came_back = λ is on. subst (λ (n : ℕ). ¬ must_refuse (setting old.dev) n) (sym a.steps_same)
+                a.stopped;
+          };
+          setting_same = a.setting_same;
+          left_room = refl;
+          right_room = refl;
+          leads = ap (λ (n : ℕ). state_of (with_device old new.dev) flash n noted is_off)
+              (sym a.steps_same);
+        })) where
+      clash : off new.dev ≡ true → ⊥
+      clash is =
+          let on : off new.dev ≡ false = power_on u (faults old.dev) (faults new.dev) (off new.dev) a.cause in
+          cc

@@ -10,10 +10,13 @@ mod laws;
 mod maps;
 mod reads;
 mod registers;
+mod span;
 mod steps;
 
 pub use bus::Bus;
 pub use did::{Base, Did, Running};
 pub use duty::{AnyDuty, AnyPart, Duty};
 pub use entry::{Act, Entry, Why};
+pub use reads::FetchNo;
+pub use span::Span;
 pub use journal::{Journal, Memory, Room};
