@@ -5,6 +5,7 @@ ghost use Rattle.core_state.specs.Registers.{starting};
 ghost use Rattle.bus_hub.specs.declared.did.Base.{Base};
 ghost use Rattle.bus_hub.specs.declared.did.Did.{Did};
 ghost use Rattle.bus_hub.specs.Room.{empty_journal};
+ghost use Rattle.bus_hub.specs.Told.{IsSafe};
 ghost use Rattle.bus_hub.specs.Hub.{Hub, Stands, IsBaseOf, IsTold, opened, record_of, core_of};
 
 use crate::did::{Base, Did, Running};
@@ -91,8 +92,9 @@ impl<D: Crash, K: Duty> Bus<D, K> {
         ensures exact { result ≡ opened dev pages journal duty }
         ensures stands { (b : Base D.Setting K) → IsBaseOf D.bytes D.off D.steps D.faults D.setting b dev pages journal duty
             → ⟦<Bus<D, K> as Records>⟧.stands result b [] [] }
+        ensures leaves { IsSafe ⟦<Bus<D, K> as Records>⟧.stands D.may_leave K.good result }
     {
-        Bus {
+        let bus = Bus {
             dev,
             pages,
             journal,
@@ -100,7 +102,9 @@ impl<D: Crash, K: Duty> Bus<D, K> {
             running: None,
             left: Record::starting(),
             right: Record::starting(),
-        }
+        };
+        bus.safe();
+        bus
     }
 
     /// Gives device, journal and duty back.
@@ -117,12 +121,5 @@ impl<D: Crash, K: Duty> Bus<D, K> {
         ensures exact { result.now ≡ self.now.duty }
     {
         &self.duty
-    }
-
-    /// The entries so far.
-    pub fn journal(&self) -> &Journal
-        ensures exact { result.now ≡ self.now.journal }
-    {
-        &self.journal
     }
 }

@@ -4,6 +4,7 @@ ghost use Rattle.std.specs.Prelude.{◌≡◌, ◌+◌, ◌<◌, ◌≤◌, [], 
 ghost use Rattle.core_state.specs.Sharing.{GoesOn};
 ghost use Rattle.mmu_map.specs.Map.{IsMapAnswer, after_map, IsUnmapAnswer, after_unmap};
 ghost use Rattle.bus_hub.specs.declared.did.Did.TheVariants.{Mapping, Unmapping};
+ghost use Rattle.bus_hub.specs.Told.{IsSafe};
 ghost use Rattle.bus_hub.specs.Hub.{Fits};
 
 use crate::bus::Bus;
@@ -36,8 +37,11 @@ impl<D: Crash, K: Duty> Bus<D, K> {
             (Mapping flash_page n space result ∷ []) }
         ensures answer { IsMapAnswer self.old.map n space result }
         ensures exact { self.new ≡ record self.old { map = after_map self.old.map flash_page n result } }
+        ensures leaves { IsSafe ⟦<Bus<D, K> as Records>⟧.stands D.may_leave K.good self.new }
     {
-        self.map_pages(flash_page, n, space)
+        let answer = self.map_pages(flash_page, n, space);
+        self.safe();
+        answer
     }
 
     /// Frees the pages.
@@ -57,7 +61,10 @@ impl<D: Crash, K: Duty> Bus<D, K> {
             (Unmapping at result ∷ []) }
         ensures answer { IsUnmapAnswer self.old.map at result }
         ensures exact { self.new ≡ record self.old { map = after_unmap self.old.map at result } }
+        ensures leaves { IsSafe ⟦<Bus<D, K> as Records>⟧.stands D.may_leave K.good self.new }
     {
-        self.unmap_pages(at)
+        let answer = self.unmap_pages(at);
+        self.safe();
+        answer
     }
 }

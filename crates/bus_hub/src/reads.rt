@@ -4,6 +4,7 @@ ghost use Rattle.std.specs.Prelude.{◌≡◌, ◌↔◌, ◌+◌, ◌-◌, ◌<
 ghost use Rattle.core_state.specs.Sharing.{GoesOn};
 ghost use Rattle.nor_device.specs.Nor.{HasCause, IsPart};
 ghost use Rattle.bus_hub.specs.Room.{HasRoom};
+ghost use Rattle.bus_hub.specs.Told.{IsSafe};
 ghost use Rattle.bus_hub.specs.Hub.{Fits, record_of};
 ghost use Rattle.bus_hub.specs.declared.reads.FetchNo.TheVariants as refusals;
 ghost use Rattle.bus_hub.specs.Fetch.{IsServed, IsUnmapped, IsReachable};
@@ -65,8 +66,11 @@ impl<D: Crash, K: Duty> Bus<D, K> {
         ensures exact { self.new ≡ with_device self.old self.new.dev }
         ensures cause { HasCause (D.faults self.old.dev) (D.faults self.new.dev)
             (D.off self.new.dev) result }
+        ensures leaves { IsSafe ⟦<Bus<D, K> as Records>⟧.stands D.may_leave K.good self.new }
     {
-        self.look(at, out)
+        let answer = self.look(at, out);
+        self.safe();
+        answer
     }
 
     /// Where the bytes of the range lie.
@@ -161,8 +165,11 @@ impl<D: Crash, K: Duty> Bus<D, K> {
             × (¬ IsServed (record_of self.old c).regs.mask at)) }
         ensures cause { HasFetchCause (D.faults self.old.dev) (D.faults self.new.dev)
             (D.off self.new.dev) result }
+        ensures leaves { IsSafe ⟦<Bus<D, K> as Records>⟧.stands D.may_leave K.good self.new }
     {
         let regs = self.record(c).regs;
-        self.fetch_in(c, k, regs, at, len)
+        let answer = self.fetch_in(c, k, regs, at, len);
+        self.safe();
+        answer
     }
 }

@@ -7,6 +7,7 @@ ghost use Rattle.bus_hub.specs.declared.did.Did.TheVariants.{Noted};
 ghost use Rattle.bus_hub.specs.declared.entry.Act.TheVariants.{Set};
 ghost use Rattle.bus_hub.specs.Room.{HasRoom, with_entry};
 ghost use Rattle.bus_hub.specs.Log.{IsNote};
+ghost use Rattle.bus_hub.specs.Told.{IsSafe};
 ghost use Rattle.bus_hub.specs.Hub.{Fits, record_of, with_record, noted};
 ghost use Rattle.bus_hub.specs.Told.{set_to};
 
@@ -42,9 +43,11 @@ impl<D: Crash, K: Duty> Bus<D, K> {
         ensures stands { GoesOn ⟦<Bus<D, K> as Records>⟧.stands Fits self.old self.new c
             (Noted k (record_of self.old c).regs act ∷ []) }
         ensures exact { self.new ≡ noted self.old c k (record_of self.old c).regs act }
+        ensures leaves { IsSafe ⟦<Bus<D, K> as Records>⟧.stands D.may_leave K.good self.new }
     {
         let regs = self.record(c).regs;
         self.put(c, k, regs, act);
+        self.safe();
     }
 
     /// Keeps other registers of a core.
@@ -69,10 +72,12 @@ impl<D: Crash, K: Duty> Bus<D, K> {
         ensures stands { GoesOn ⟦<Bus<D, K> as Records>⟧.stands Fits self.old self.new c
             (Noted k regs Set ∷ []) }
         ensures exact { self.new ≡ set_to (noted self.old c k regs Set) c regs }
+        ensures leaves { IsSafe ⟦<Bus<D, K> as Records>⟧.stands D.may_leave K.good self.new }
     {
         let saved = self.record(c).saved;
         self.put(c, k, regs, Act::Set);
         self.keep_record(c, Record { regs, saved });
+        self.safe();
     }
 
     /// Keeps the registers of a core and clears those in force.
@@ -82,10 +87,12 @@ impl<D: Crash, K: Duty> Bus<D, K> {
         requires saved { IsNone (record_of self.old c).saved }
         ensures stands { GoesOn ⟦<Bus<D, K> as Records>⟧.stands Fits self.old self.new c [] }
         ensures exact { self.new ≡ with_record self.old c (saved_and_masked (record_of self.old c)) }
+        ensures leaves { IsSafe ⟦<Bus<D, K> as Records>⟧.stands D.may_leave K.good self.new }
     {
         let mut r = self.record(c);
         save_and_mask(&mut r);
         self.keep_record(c, r);
+        self.safe();
     }
 
     /// Puts the saved registers of a core back in force.
@@ -95,9 +102,11 @@ impl<D: Crash, K: Duty> Bus<D, K> {
         requires saved { IsSome (record_of self.old c).saved }
         ensures stands { GoesOn ⟦<Bus<D, K> as Records>⟧.stands Fits self.old self.new c [] }
         ensures exact { self.new ≡ with_record self.old c (restored (record_of self.old c)) }
+        ensures leaves { IsSafe ⟦<Bus<D, K> as Records>⟧.stands D.may_leave K.good self.new }
     {
         let mut r = self.record(c);
         restore(&mut r);
         self.keep_record(c, r);
+        self.safe();
     }
 }

@@ -7,6 +7,7 @@ ghost use Rattle.nor_device.specs.Flash.{end_of, IsInOnePage};
 ghost use Rattle.nor_device.specs.Nor.{HasCause};
 ghost use Rattle.bus_hub.specs.Room.{HasRoom};
 ghost use Rattle.bus_hub.specs.Log.{opening};
+ghost use Rattle.bus_hub.specs.Told.{IsSafe};
 ghost use Rattle.bus_hub.specs.Hub.{Fits, record_of, core_of, step_of};
 ghost use Rattle.bus_hub.specs.Told.{Starts, Polls, started, polled, number_of, held, with_device, running_step, ended_step, after_poll};
 
@@ -78,9 +79,12 @@ impl<D: Crash, K: Duty> Bus<D, K> {
         ensures err { OnErr result (self.new ≡ with_device self.old self.new.dev) }
         ensures cause { HasCause (D.faults self.old.dev) (D.faults self.new.dev)
             (D.off self.new.dev) result }
+        ensures leaves { IsSafe ⟦<Bus<D, K> as Records>⟧.stands D.may_leave K.good self.new }
     {
         let regs = self.record(c).regs;
-        self.begin(c, k, regs, step)
+        let answer = self.begin(c, k, regs, step);
+        self.safe();
+        answer
     }
 
     /// Polls the device, and notes the end of the step, where it has ended.
@@ -129,8 +133,11 @@ impl<D: Crash, K: Duty> Bus<D, K> {
         ensures left { result ≡ Ok answers.Busy → D.left self.new.dev < D.left self.old.dev }
         ensures cause { HasCause (D.faults self.old.dev) (D.faults self.new.dev)
             (D.off self.new.dev) result }
+        ensures leaves { IsSafe ⟦<Bus<D, K> as Records>⟧.stands D.may_leave K.good self.new }
     {
         let regs = self.record(c).regs;
-        self.ask(regs)
+        let answer = self.ask(regs);
+        self.safe();
+        answer
     }
 }
