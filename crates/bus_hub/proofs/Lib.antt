@@ -6,3 +6,8 @@ pub mod Goodness
 pub mod Opening
 pub mod Spans
 pub mod Fetching
+pub mod Parts
+pub mod Rooms
+pub mod LegalLog
+pub mod FlashLog
+pub mod Facts

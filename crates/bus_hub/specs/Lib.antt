@@ -3,5 +3,7 @@ pub mod JournalView
 pub mod Fetch
 pub mod Log
 pub mod Hub
+pub mod Shares
+pub mod Legal
 pub mod HubView
 pub mod Told

@@ -1,5 +1,13 @@
 //! What holds of every bus, whatever base and shares it stands for.
 
+ghost use Rattle.std.specs.Prelude.{◌≡◌, ℕ, ◌+◌, ◌<◌, ◌≤◌, List, None};
+ghost use Rattle.core_state.specs.Sharing.{in_order};
+ghost use Rattle.bus_hub.specs.declared.did.Base.{Base};
+ghost use Rattle.bus_hub.specs.declared.did.Did.{Did};
+ghost use Rattle.bus_hub.specs.Room.{HasRoom};
+ghost use Rattle.bus_hub.specs.Hub.{needs, byte_needs, owed, room_of, core_of};
+ghost use Rattle.bus_hub.specs.Shares.{own_begun, open_from, made, moved_by, ShowsFlash};
+ghost use Rattle.bus_hub.specs.Legal.{LegalTo};
 ghost use Rattle.bus_hub.specs.Told.{IsSafe};
 
 use crate::bus::Bus;
@@ -14,4 +22,29 @@ impl<D: Crash, K: Duty> Bus<D, K> {
     {
         let _ = &self.dev;
     }
+
+    /// A core knows by its own share what it may do, which step of its own runs, and how much room the journal
+    /// has for it, whatever the other core did.
+    pub fn known(&self)
+        ensures part { (b : Base D.Setting K) (c : ℕ) (mine theirs : List Did) → c < 2
+            → in_order (⟦<Bus<D, K> as Records>⟧.stands self.now b) c mine theirs
+            → K.part self.now.duty c ≡ moved_by K.moved (K.part b.duty c) (made mine) }
+        ensures step { (b : Base D.Setting K) (c : ℕ) (mine theirs : List Did) → c < 2
+            → in_order (⟦<Bus<D, K> as Records>⟧.stands self.now b) c mine theirs
+            → own_begun c self.now.running ≡ open_from None mine }
+        ensures room { (b : Base D.Setting K) (c : ℕ) (mine theirs : List Did) (n m : ℕ) → c < 2
+            → in_order (⟦<Bus<D, K> as Records>⟧.stands self.now b) c mine theirs
+            → needs mine + n ≤ (room_of b c).entries → byte_needs mine + m ≤ (room_of b c).bytes
+            → HasRoom self.now.journal (owed self.now.running + n) m }
+    {}
+
+    /// The journal is legal, and each fetch shows the bytes of the flash as it was then.
+    pub fn legal(&self)
+        ensures journal { (b : Base D.Setting K) (left right : List Did)
+            → ⟦<Bus<D, K> as Records>⟧.stands self.now b left right
+            → LegalTo None self.now.journal.entries (core_of self.now.running) }
+        ensures fetches { (b : Base D.Setting K) (left right : List Did)
+            (s : ⟦<Bus<D, K> as Records>⟧.stands self.now b left right)
+            → ShowsFlash b.map b.flash s.stood.log }
+    {}
 }
