@@ -11,3 +11,4 @@ pub mod Rooms
 pub mod LegalLog
 pub mod FlashLog
 pub mod Facts
+pub mod Stops

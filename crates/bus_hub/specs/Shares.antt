@@ -1,18 +1,17 @@
 -- What a share, or a whole log, says of steps, pages and bytes.
-use Rattle.std.specs.Prelude.{◌≡◌, ◌==◌, ℕ, ◌+◌, ◌<◌, ◌≤◌, ◌⊎◌, Bool, cond, List, [], ◌∷◌, ◌++◌, Option, Some, None}
+use Rattle.std.specs.Prelude.{◌≡◌, ◌==◌, ℕ, ◌+◌, ◌<◌, ◌≤◌, Bool, false, cond, List, [], ◌∷◌, ◌++◌, Option, Some, None}
 use Rattle.core_state.specs.declared.registers.Regs.{Regs}
 use Rattle.core_state.specs.Sharing.{in_order}
 use Rattle.nor_device.specs.declared.step.Step.{Step}
-use Rattle.nor_device.specs.declared.nor.NorFault.{NorFault}
-use Rattle.nor_device.specs.declared.nor.NorFault.TheVariants.{Failed, Off}
 use Rattle.nor_device.specs.Flash.{after_steps}
+use Rattle.nor_device.specs.Nor.{one_more}
 use Rattle.mmu_map.specs.Map.{Map, after_map, after_unmap}
 use Rattle.bus_hub.specs.declared.did.Running.{Running}
 use Rattle.bus_hub.specs.declared.did.Did.{Did}
 use Rattle.bus_hub.specs.declared.did.Did.TheVariants.{Opened, Closed, Broken, Fetched, Noted, Denied, Mapping, Unmapping, Missed, Masked}
 use Rattle.bus_hub.specs.declared.did.Base.{Base}
 use Rattle.bus_hub.specs.Fetch.{IsRead}
-use Rattle.bus_hub.specs.Log.{Item, item}
+use Rattle.bus_hub.specs.Log.{Item, item, off_by}
 
 -- a step that was begun, with the number of its action
 pub record Begun : Type 0 where
@@ -124,20 +123,64 @@ ShowsFlash m flash log =
     → log ≡ before ++ item c (Fetched k regs at bytes) ∷ later → AreUnbroken (all_of before)
     → IsRead (map_after_all m (all_of before)) (after_steps flash (made (all_of before))) at bytes
 
--- an item says that the power is off
-abbrev pub SaysOff : Did → Type 0
-SaysOff (Opened k regs step) = ⊥
-SaysOff (Closed k regs) = ⊥
-SaysOff (Broken k regs why left) = why ≡ Off
-SaysOff (Fetched k regs at bytes) = ⊥
-SaysOff (Noted k regs act) = ⊥
-SaysOff (Denied why) = why ≡ Off
-SaysOff (Mapping flash_page n space answer) = ⊥
-SaysOff (Unmapping at answer) = ⊥
-SaysOff (Missed at len) = ⊥
-SaysOff (Masked at len) = ⊥
+-- whether the device last answered that the power is off, after an item
+abbrev pub off_after : Bool → Did → Bool
+off_after off (Opened k regs step) = false
+off_after off (Closed k regs) = false
+off_after off (Broken k regs why left) = off_by why
+off_after off (Fetched k regs at bytes) = false
+off_after off (Noted k regs act) = off
+off_after off (Denied why) = off_by why
+off_after off (Mapping flash_page n space answer) = off
+off_after off (Unmapping at answer) = off
+off_after off (Missed at len) = off
+off_after off (Masked at len) = off
 
--- an item of the share does
-abbrev pub TellsOff : List Did → Type 0
-TellsOff [] = ⊥
-TellsOff (did ∷ share) = SaysOff did ⊎ TellsOff share
+-- the same after all of them
+abbrev pub off_after_all : Bool → List Did → Bool
+off_after_all off [] = off
+off_after_all off (did ∷ share) = off_after_all (off_after off did) share
+
+-- the number of the last step, after an item
+abbrev pub count_after : ℕ → Did → ℕ
+count_after n (Opened k regs step) = one_more n
+count_after n (Closed k regs) = n
+count_after n (Broken k regs why left) = n
+count_after n (Fetched k regs at bytes) = n
+count_after n (Noted k regs act) = n
+count_after n (Denied why) = n
+count_after n (Mapping flash_page m space answer) = n
+count_after n (Unmapping at answer) = n
+count_after n (Missed at len) = n
+count_after n (Masked at len) = n
+
+-- the same after all of them
+abbrev pub count_after_all : ℕ → List Did → ℕ
+count_after_all n [] = n
+count_after_all n (did ∷ share) = count_after_all (count_after n did) share
+
+-- the item neither begins nor ends a step, and reads no byte
+abbrev pub IsStill : Did → Type 0
+IsStill (Opened k regs step) = ⊥
+IsStill (Closed k regs) = ⊥
+IsStill (Broken k regs why left) = ⊥
+IsStill (Fetched k regs at bytes) = ⊥
+IsStill (Noted k regs act) = Unit {0}
+IsStill (Denied why) = Unit {0}
+IsStill (Mapping flash_page n space answer) = Unit {0}
+IsStill (Unmapping at answer) = Unit {0}
+IsStill (Missed at len) = Unit {0}
+IsStill (Masked at len) = Unit {0}
+
+-- no item does
+abbrev pub AreStill : List Did → Type 0
+AreStill [] = Unit {0}
+AreStill (did ∷ share) = IsStill did × AreStill share
+
+-- after the step of this number every read and start is refused: where no step is open behind a first part of the log,
+-- nothing is begun, ended or fetched in the rest
+abbrev pub StopsAt : (ℕ → Type 0) → ℕ → List Item → Type 0
+StopsAt must_refuse first log =
+    (before later : List Item) → log ≡ before ++ later
+    → open_from None (all_of before) ≡ None
+    → must_refuse (count_after_all first (all_of before)) → AreStill (all_of later)

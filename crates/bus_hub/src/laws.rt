@@ -1,12 +1,12 @@
 //! What holds of every bus, whatever base and shares it stands for.
 
-ghost use Rattle.std.specs.Prelude.{◌≡◌, ℕ, ◌+◌, ◌<◌, ◌≤◌, List, None};
+ghost use Rattle.std.specs.Prelude.{◌≡◌, ℕ, ◌+◌, ◌<◌, ◌≤◌, List, None, length};
 ghost use Rattle.core_state.specs.Sharing.{in_order};
 ghost use Rattle.bus_hub.specs.declared.did.Base.{Base};
 ghost use Rattle.bus_hub.specs.declared.did.Did.{Did};
 ghost use Rattle.bus_hub.specs.Room.{HasRoom};
-ghost use Rattle.bus_hub.specs.Hub.{needs, byte_needs, owed, room_of, core_of};
-ghost use Rattle.bus_hub.specs.Shares.{own_begun, open_from, made, moved_by, ShowsFlash};
+ghost use Rattle.bus_hub.specs.Hub.{needs, byte_needs, owed, room_of, core_of, PowerIs};
+ghost use Rattle.bus_hub.specs.Shares.{own_begun, open_from, made, moved_by, ShowsFlash, all_of, off_after_all, count_after_all, StopsAt};
 ghost use Rattle.bus_hub.specs.Legal.{LegalTo};
 ghost use Rattle.bus_hub.specs.Told.{IsSafe};
 
@@ -46,5 +46,23 @@ impl<D: Crash, K: Duty> Bus<D, K> {
         ensures fetches { (b : Base D.Setting K) (left right : List Did)
             (s : ⟦<Bus<D, K> as Records>⟧.stands self.now b left right)
             → ShowsFlash b.map b.flash s.stood.log }
+    {}
+
+    /// Size, number of steps and power of the device by the log. Where every read and start is refused after
+    /// the last step, the log has no more steps and fetches.
+    pub fn lasting(&self)
+        ensures size { (b : Base D.Setting K) (left right : List Did)
+            → ⟦<Bus<D, K> as Records>⟧.stands self.now b left right
+            → length b.flash ≡ D.size self.now.dev }
+        ensures counted { (b : Base D.Setting K) (left right : List Did)
+            (s : ⟦<Bus<D, K> as Records>⟧.stands self.now b left right)
+            → D.steps self.now.dev ≡ count_after_all b.steps (all_of s.stood.log) }
+        ensures power { (b : Base D.Setting K) (left right : List Did)
+            (s : ⟦<Bus<D, K> as Records>⟧.stands self.now b left right)
+            → PowerIs (D.off self.now.dev) (off_after_all b.off (all_of s.stood.log))
+            (D.must_refuse (D.setting self.now.dev) (D.steps self.now.dev)) }
+        ensures stops { (b : Base D.Setting K) (left right : List Did)
+            (s : ⟦<Bus<D, K> as Records>⟧.stands self.now b left right)
+            → StopsAt (D.must_refuse (D.setting self.now.dev)) b.steps s.stood.log }
     {}
 }
