@@ -33,7 +33,7 @@ module _ {D S K P : Type 0}
     (part : K → ℕ → P) (grants : P → Step → Type 0) (after : K → ℕ → Step → K)
     (good : List ℕ → K → List ℕ → Type 0)
     (sized : (device : D) (flash : List ℕ) → bytes device ≡ Some flash
-        → length flash ≡ size device) where
+    → length flash ≡ size device) where
   abbrev pub StandsBy : Hub D K → Base S K → List Did → List Did → Type 0
   StandsBy = Stands bytes off steps faults setting may_end may_tear may_refuse must_refuse part grants after good
 

@@ -41,24 +41,24 @@ module _ {S K P : Type 0}
 
   leaves_item : (set : S) (s : State K) (c : ℕ) (did : Did) → AreUnbroken (did ∷ [])
       → Obeys set s c did → Leaves s (change after s c did) did
-  leaves_item set s c (Opened k regs step) whole rule = record { flash_is = refl; open_is = refl; map_is = refl; }
+  leaves_item set s c (Opened k regs step) whole rule = record { flash_is = refl; open_is = refl; map_is = refl }
   leaves_item set s c (Closed k regs) whole rule = record {
     flash_is = whole_flash s c (λ run. run.k ≡ k) s.running rule.0;
     open_is = refl;
     map_is = whole_map s c s.running;
   }
   leaves_item set s c (Broken k regs why left) whole rule = absurd whole
-  leaves_item set s c (Fetched k regs at bytes) whole rule = record { flash_is = refl; open_is = refl; map_is = refl; }
-  leaves_item set s c (Noted k regs act) whole rule = record { flash_is = refl; open_is = refl; map_is = refl; }
-  leaves_item set s c (Denied why) whole rule = record { flash_is = refl; open_is = refl; map_is = refl; }
+  leaves_item set s c (Fetched k regs at bytes) whole rule = record { flash_is = refl; open_is = refl; map_is = refl }
+  leaves_item set s c (Noted k regs act) whole rule = record { flash_is = refl; open_is = refl; map_is = refl }
+  leaves_item set s c (Denied why) whole rule = record { flash_is = refl; open_is = refl; map_is = refl }
   leaves_item set s c (Mapping flash_page n space answer) whole rule = record {
     flash_is = refl;
     open_is = refl;
     map_is = refl;
   }
-  leaves_item set s c (Unmapping at answer) whole rule = record { flash_is = refl; open_is = refl; map_is = refl; }
-  leaves_item set s c (Missed at len) whole rule = record { flash_is = refl; open_is = refl; map_is = refl; }
-  leaves_item set s c (Masked at len) whole rule = record { flash_is = refl; open_is = refl; map_is = refl; }
+  leaves_item set s c (Unmapping at answer) whole rule = record { flash_is = refl; open_is = refl; map_is = refl }
+  leaves_item set s c (Missed at len) whole rule = record { flash_is = refl; open_is = refl; map_is = refl }
+  leaves_item set s c (Masked at len) whole rule = record { flash_is = refl; open_is = refl; map_is = refl }
 
   -- of a log without a break, its first item and the others
   unbroken_first : (did : Did) (share : List Did) → AreUnbroken (did ∷ share) → AreUnbroken (did ∷ [])
@@ -96,8 +96,7 @@ module _ {S K P : Type 0}
   flash_of_log set s (x ∷ log) all whole =
       let t = change after s x.core x.did in
       let now = leaves_item set s x.core x.did (unbroken_first x.did (all_of log) whole) all.1 in
-      let later = flash_of_log set t log all.2 (unbroken_later x.did (all_of log) whole) in
-      (
+      let later = flash_of_log set t log all.2 (unbroken_later x.did (all_of log) whole) in (
         later.0
             ∙ ap (λ (o : Option Begun). after_steps t.flash (made_from o (all_of log))) now.open_is
             ∙ ap (λ (f : List ℕ). after_steps f (made_from (open_after (begun_of s.running) x.did)

@@ -22,11 +22,11 @@ module _ {S K P : Type 0}
     (part : K → ℕ → P) (grants : P → Step → Type 0) (after : K → ℕ → Step → K)
     (good : List ℕ → K → List ℕ → Type 0)
     (torn_good : (first : List ℕ) (duty : K) (c : ℕ) (step : Step) (flash left : List ℕ)
-        → good first duty flash → grants (part duty c) step → Torn flash step left
-        → good first duty left)
+    → good first duty flash → grants (part duty c) step → Torn flash step left
+    → good first duty left)
     (made_good : (first : List ℕ) (duty : K) (c : ℕ) (step : Step) (flash : List ℕ)
-        → good first duty flash → grants (part duty c) step
-        → good first (after duty c step) (applied flash step)) where
+    → good first duty flash → grants (part duty c) step
+    → good first (after duty c step) (applied flash step)) where
   -- the flash is good, and the step that runs was allowed
   pub record IsGoodState (first : List ℕ) (s : State K) : Type 0 where
     pub flash_good : good first s.duty s.flash
@@ -96,10 +96,10 @@ module _ {S K P : Type 0}
   module _ {D : Type 0} (bytes : D → Option (List ℕ)) (running : D → Option Step)
       (off : D → Bool) (steps faults : D → ℕ) (setting : D → S) (may_leave : D → List ℕ → Type 0)
       (idle_leaves : (device : D) (flash left : List ℕ) → running device ≡ None
-          → bytes device ≡ Some flash → may_leave device left ↔ (left ≡ flash))
+      → bytes device ≡ Some flash → may_leave device left ↔ (left ≡ flash))
       (torn_leaves : (device : D) (step : Step) (flash left : List ℕ)
-          → running device ≡ Some step → bytes device ≡ Some flash
-          → may_leave device left ↔ Torn flash step left) where
+      → running device ≡ Some step → bytes device ≡ Some flash
+      → may_leave device left ↔ Torn flash step left) where
     abbrev StandsBy : Hub D K → Base S K → List Did → List Did → Type 0
     StandsBy = Stands bytes off steps faults setting may_end may_tear may_refuse must_refuse part grants after good
 

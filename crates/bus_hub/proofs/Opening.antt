@@ -61,8 +61,8 @@ module _ {D S K P : Type 0}
         setting_is = sym is.setting_is;
         left_room = sym is.left_is;
         right_room = sym is.right_is;
-        left_fits = record { entries_fit = omega arith; bytes_fit = omega arith; };
-        right_fits = record { entries_fit = omega arith; bytes_fit = omega arith; };
+        left_fits = record { entries_fit = omega arith; bytes_fit = omega arith };
+        right_fits = record { entries_fit = omega arith; bytes_fit = omega arith };
         good_first = subst (λ (k : K). good b.flash k b.flash) (sym is.duty_is)
             (good_first b.flash is.flash_is);
         stood = record {

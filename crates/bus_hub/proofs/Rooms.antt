@@ -71,8 +71,12 @@ module _ {S K P : Type 0}
       let e = ap (λ (entries : List Entry). length entries) (same_entries s c s.running) in
       omega (arith, one_longer {A = Entry}, owed_runs c (λ run. run.k ≡ k) s.running rule.0, e)
   spends set s c (Broken k regs why left) rule =
-      omega (arith, one_longer {A = Entry}, owed_runs c (λ run. (run.k ≡ k) × Torn s.flash run.step left
-      × may_tear set s.steps s.flash run.step left) s.running rule.0)
+      omega (
+        arith,
+        one_longer {A = Entry},
+        owed_runs c (λ run. (run.k ≡ k) × Torn s.flash run.step left
+            × may_tear set s.steps s.flash run.step left) s.running rule.0,
+      )
   spends set s c (Fetched k regs at bytes) rule = omega (arith, one_longer {A = Entry})
   spends set s c (Noted k regs act) rule = omega (arith, one_longer {A = Entry})
   spends set s c (Denied why) rule = omega arith

@@ -61,6 +61,7 @@ powered off stops on = record {
 } where
   clash : off ≡ true → ⊥
   clash is = cc
+
   false_true : false ≡ true → ⊥
   false_true is = cc
 
@@ -155,11 +156,11 @@ module _ {D S K P : Type 0}
         leads = ap (λ (n : ℕ). state_of (with_device old new.dev) flash n noted is_off)
             (sym p.steps_same);
       })) where
-    clash : off new.dev ≡ true → ⊥
-    clash is =
-        let on : off new.dev ≡ false =
-        power_on answers.Busy (faults old.dev) (faults new.dev) (off new.dev) p.cause in
-        cc
+        clash : off new.dev ≡ true → ⊥
+        clash is =
+            let on : off new.dev ≡ false =
+            power_on answers.Busy (faults old.dev) (faults new.dev) (off new.dev) p.cause in
+            cc
 
   -- a step that has ended whole
   ready_is : (old new : Hub D K) (run : Running) (regs : Regs) → old.running ≡ Some run
@@ -189,16 +190,16 @@ module _ {D S K P : Type 0}
         right_room = refl;
         leads = ap (λ (o : Option Running). record (with_one (made_whole after
             (state_of old flash (steps old.dev) noted is_off) run.core o)
-            (entry_of run.core run.k regs (Close ends.Done))) { running = None; is_off = false; }) runs
+            (entry_of run.core run.k regs (Close ends.Done))) { running = None; is_off = false }) runs
             ∙ ap (λ (n : ℕ). state_of (ended_step old run regs ends.Done
             (after old.duty run.core run.step) new.dev) (applied flash run.step) n noted false)
             (sym p.steps_same);
       })) where
-    made_told : (flash : List ℕ) → bytes old.dev ≡ Some flash
-        → IsMade (Some run.step) (bytes old.dev) (bytes new.dev)
-        → bytes new.dev ≡ Some (applied flash run.step)
-    made_told flash told made =
-        subst (λ (t : Option (List ℕ)). IsMade (Some run.step) t (bytes new.dev)) told made
+        made_told : (flash : List ℕ) → bytes old.dev ≡ Some flash
+            → IsMade (Some run.step) (bytes old.dev) (bytes new.dev)
+            → bytes new.dev ≡ Some (applied flash run.step)
+        made_told flash told made =
+            subst (λ (t : Option (List ℕ)). IsMade (Some run.step) t (bytes new.dev)) told made
 
   -- a step that was broken off
   broken_is : (old new : Hub D K) (run : Running) (regs : Regs) (why : NorFault)
@@ -212,35 +213,38 @@ module _ {D S K P : Type 0}
       (adds bytes off steps faults setting may_end may_tear may_refuse must_refuse part grants after good
       old (ended_step old run regs (end_by why) old.duty new.dev) run.core
       (Broken run.k regs why (held (bytes new.dev))) small (λ flash noted is_off told counted power.
-        let left = subst (λ (t : Option (List ℕ)). IsLeftTorn (may_tear (setting old.dev) (steps old.dev))
-        (Some run.step) t (bytes new.dev)) told p.torn in
-        let is_left : held (bytes new.dev) ≡ left.0 = ap held left.1 in
-        record {
-          rule = (
-            subst (λ (o : Option Running). Runs run.core (λ r. (r.k ≡ run.k)
-                × Torn flash r.step (held (bytes new.dev))
-                × may_tear (setting old.dev) (steps old.dev) flash r.step (held (bytes new.dev))) o)
-                (sym runs) (refl, (
-              refl,
-              subst (λ (g : List ℕ). Torn flash run.step g) (sym is_left) left.2,
-              subst (λ (g : List ℕ). may_tear (setting old.dev) (steps old.dev) flash run.step g)
-                  (sym is_left) left.3,
-            )),
-            p.ended,
-          );
-          flash_after = held (bytes new.dev);
-          told = left.1 ∙ ap Some (sym is_left);
-          noted_after = noted_by why noted;
-          counted = counted_by why (faults old.dev) (faults new.dev) noted (off new.dev) p.cause counted;
-          is_off_after = off_by why;
-          power = power_by why (faults old.dev) (faults new.dev) (off new.dev)
-              (must_refuse (setting old.dev) (steps new.dev)) p.cause;
-          setting_same = p.setting_same;
-          left_room = refl;
-          right_room = refl;
-          leads = ap (λ (n : ℕ). state_of (ended_step old run regs (end_by why) old.duty new.dev)
-              (held (bytes new.dev)) n (noted_by why noted) (off_by why)) (sym p.steps_same);
-        }))
+      let left = subst (λ (t : Option (List ℕ)). IsLeftTorn (may_tear (setting old.dev) (steps old.dev))
+      (Some run.step) t (bytes new.dev)) told p.torn in
+      let is_left : held (bytes new.dev) ≡ left.0 = ap held left.1 in
+      record {
+        rule = (
+          subst (λ (o : Option Running). Runs run.core (λ r. (r.k ≡ run.k)
+              × Torn flash r.step (held (bytes new.dev))
+              × may_tear (setting old.dev) (steps old.dev) flash r.step (held (bytes new.dev))) o)
+              (sym runs) (
+                refl,
+                (
+                  refl,
+                  subst (λ (g : List ℕ). Torn flash run.step g) (sym is_left) left.2,
+                  subst (λ (g : List ℕ). may_tear (setting old.dev) (steps old.dev) flash run.step g)
+                      (sym is_left) left.3,
+                ),
+              ),
+          p.ended,
+        );
+        flash_after = held (bytes new.dev);
+        told = left.1 ∙ ap Some (sym is_left);
+        noted_after = noted_by why noted;
+        counted = counted_by why (faults old.dev) (faults new.dev) noted (off new.dev) p.cause counted;
+        is_off_after = off_by why;
+        power = power_by why (faults old.dev) (faults new.dev) (off new.dev)
+            (must_refuse (setting old.dev) (steps new.dev)) p.cause;
+        setting_same = p.setting_same;
+        left_room = refl;
+        right_room = refl;
+        leads = ap (λ (n : ℕ). state_of (ended_step old run regs (end_by why) old.duty new.dev)
+            (held (bytes new.dev)) n (noted_by why noted) (off_by why)) (sym p.steps_same);
+      }))
 
   polls_by : (old new : Hub D K) (run : Running) (regs : Regs) (r : Result Ready NorFault)
       → old.running ≡ Some run → run.core < 2 → new ≡ after_poll after old run regs r new.dev
@@ -260,6 +264,7 @@ module _ {D S K P : Type 0}
   polls old new c regs r small core regs_are is p = by_run old.running refl where
     same : {A : Type 0} (a b : A) → ◌≡◌ {A = Option A} (Some a) (Some b) → a ≡ b
     same a b e = cc
+
     by_run : (o : Option Running) → old.running ≡ o → GoesOn StandsBy Fits old new c
         (polled (number_of old.running) (record_of old c).regs (held (bytes new.dev)) r)
     by_run None runs = absurd (subst (λ (o : Option Running). core_of o ≡ Some c → ⊥) (sym runs) (λ e. cc) core)
@@ -306,7 +311,7 @@ module _ {D S K P : Type 0}
           leads = ap (λ (n : ℕ). state_of (with_device old new.dev) flash n noted is_off)
               (sym a.steps_same);
         })) where
-      clash : off new.dev ≡ true → ⊥
-      clash is =
-          let on : off new.dev ≡ false = power_on u (faults old.dev) (faults new.dev) (off new.dev) a.cause in
-          cc
+          clash : off new.dev ≡ true → ⊥
+          clash is =
+              let on : off new.dev ≡ false = power_on u (faults old.dev) (faults new.dev) (off new.dev) a.cause in
+              cc

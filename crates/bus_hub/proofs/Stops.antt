@@ -17,11 +17,6 @@ use Rattle.bus_hub.specs.Shares.{Begun, begun_of, open_after, open_from, all_of,
 use Rattle.bus_hub.proofs.Logs.{Keeps, kept, ruled-front, ruled-back}
 
 module _ {K : Type 0} (after : K → ℕ → Step → K) where
-  -- what a step made whole leaves alone
-  pub record Alike (s t : State K) : Type 0 where
-    pub steps_same : t.steps ≡ s.steps
-    pub off_same : t.is_off ≡ s.is_off
-
   -- one item: the open step, the power, the number of steps
   pub record Follows (s t : State K) (did : Did) : Type 0 where
     pub open_is : begun_of t.running ≡ open_after (begun_of s.running) did
@@ -33,24 +28,24 @@ module _ {K : Type 0} (after : K → ℕ → Step → K) where
   whole_steps s c (Some run) = refl
 
   follows : (s : State K) (c : ℕ) (did : Did) → Follows s (change after s c did) did
-  follows s c (Opened k regs step) = record { open_is = refl; off_is = refl; count_is = refl; }
+  follows s c (Opened k regs step) = record { open_is = refl; off_is = refl; count_is = refl }
   follows s c (Closed k regs) = record {
     open_is = refl;
     off_is = refl;
     count_is = whole_steps s c s.running;
   }
-  follows s c (Broken k regs why left) = record { open_is = refl; off_is = refl; count_is = refl; }
-  follows s c (Fetched k regs at bytes) = record { open_is = refl; off_is = refl; count_is = refl; }
-  follows s c (Noted k regs act) = record { open_is = refl; off_is = refl; count_is = refl; }
-  follows s c (Denied why) = record { open_is = refl; off_is = refl; count_is = refl; }
+  follows s c (Broken k regs why left) = record { open_is = refl; off_is = refl; count_is = refl }
+  follows s c (Fetched k regs at bytes) = record { open_is = refl; off_is = refl; count_is = refl }
+  follows s c (Noted k regs act) = record { open_is = refl; off_is = refl; count_is = refl }
+  follows s c (Denied why) = record { open_is = refl; off_is = refl; count_is = refl }
   follows s c (Mapping flash_page n space answer) = record {
     open_is = refl;
     off_is = refl;
     count_is = refl;
   }
-  follows s c (Unmapping at answer) = record { open_is = refl; off_is = refl; count_is = refl; }
-  follows s c (Missed at len) = record { open_is = refl; off_is = refl; count_is = refl; }
-  follows s c (Masked at len) = record { open_is = refl; off_is = refl; count_is = refl; }
+  follows s c (Unmapping at answer) = record { open_is = refl; off_is = refl; count_is = refl }
+  follows s c (Missed at len) = record { open_is = refl; off_is = refl; count_is = refl }
+  follows s c (Masked at len) = record { open_is = refl; off_is = refl; count_is = refl }
 
   -- a log
   pub open_log : (s : State K) (log : List Item)
@@ -114,8 +109,7 @@ module _ {S K P : Type 0}
       → s.running ≡ None → must_refuse set s.steps → AreStill (all_of log)
   still_log set s [] all idle stops = tt
   still_log set s (x ∷ log) all idle stops =
-      let now = still_item set s x.core x.did all.1 idle stops in
-      (
+      let now = still_item set s x.core x.did all.1 idle stops in (
         now.0,
         still_log set (change after s x.core x.did) log all.2 now.1
             (subst (λ (n : ℕ). must_refuse set n) (sym now.2) stops),
@@ -175,7 +169,7 @@ module _ {S K P : Type 0}
   module _ {D : Type 0} (bytes : D → Option (List ℕ)) (size : D → ℕ) (off : D → Bool)
       (steps faults : D → ℕ) (setting : D → S) (good : List ℕ → K → List ℕ → Type 0)
       (sized : (device : D) (flash : List ℕ) → bytes device ≡ Some flash
-          → length flash ≡ size device) where
+      → length flash ≡ size device) where
     abbrev StandsBy : Hub D K → Base S K → List Did → List Did → Type 0
     StandsBy = Stands bytes off steps faults setting may_end may_tear may_refuse must_refuse part grants after good
 

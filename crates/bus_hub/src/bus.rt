@@ -37,23 +37,23 @@ impl<D: Crash, K: Duty> Model for Bus<D, K> {
     ghost use Rattle.bus_hub.specs.HubView.{IsHub};
 
     ghost view = { λ b. record {
-        dev = b.dev;
-        map = b.pages;
-        journal = b.journal;
-        duty = b.duty;
-        running = b.running;
-        left = b.left;
-        right = b.right;
+      dev = b.dev;
+      map = b.pages;
+      journal = b.journal;
+      duty = b.duty;
+      running = b.running;
+      left = b.left;
+      right = b.right;
     } };
 
     ghost invariant = { λ b. IsHub D.bytes D.running D.off K.part K.grants (record {
-        dev = b.dev;
-        map = b.pages;
-        journal = b.journal;
-        duty = b.duty;
-        running = b.running;
-        left = b.left;
-        right = b.right;
+      dev = b.dev;
+      map = b.pages;
+      journal = b.journal;
+      duty = b.duty;
+      running = b.running;
+      left = b.left;
+      right = b.right;
     }) };
 }
 

@@ -19,9 +19,16 @@ pub struct Running {
 /// One thing that a core did to the bus: an entry of the journal, or a mark.
 pub enum Did {
     /// A step was begun.
-    Opened { k: u32, regs: Regs, step: Step },
+    Opened {
+        k: u32,
+        regs: Regs,
+        step: Step,
+    },
     /// It ended whole.
-    Closed { k: u32, regs: Regs },
+    Closed {
+        k: u32,
+        regs: Regs,
+    },
     /// It was broken off, and left this flash.
     Broken {
         k: u32,
@@ -37,9 +44,15 @@ pub enum Did {
         bytes: LinkedList<u8>,
     },
     /// Another entry.
-    Noted { k: u32, regs: Regs, act: Act },
+    Noted {
+        k: u32,
+        regs: Regs,
+        act: Act,
+    },
     /// A mark: a read or the start of a step was refused.
-    Denied { why: NorFault },
+    Denied {
+        why: NorFault,
+    },
     /// A mark: pages were asked for.
     Mapping {
         flash_page: u32,
@@ -53,9 +66,15 @@ pub enum Did {
         answer: Result<(), NotMapped>,
     },
     /// A mark: a fetch was refused, since its range is not mapped.
-    Missed { at: u32, len: u32 },
+    Missed {
+        at: u32,
+        len: u32,
+    },
     /// A mark: a fetch was refused, since the mask does not serve its space.
-    Masked { at: u32, len: u32 },
+    Masked {
+        at: u32,
+        len: u32,
+    },
 }
 
 /// What is fixed when the bus is made: flash, pages, duty, the rooms of both cores, and of the device its

@@ -82,13 +82,6 @@ impl Journal {
         &self.bytes[start..start + len as usize]
     }
 
-    /// The room of each core.
-    pub fn rooms(&self) -> [Room; 2]
-        ensures exact { result ≡ self.now.left_room ∷ self.now.right_room ∷ [] }
-    {
-        [self.left_room, self.right_room]
-    }
-
     /// One more entry.
     pub(crate) fn add(&mut self, entry: Entry)
         requires room { HasRoom self.old 1 0 }

@@ -12,11 +12,13 @@ mod reads;
 mod registers;
 mod span;
 mod steps;
+#[cfg(test)]
+mod tests;
 
 pub use bus::Bus;
 pub use did::{Base, Did, Running};
 pub use duty::{AnyDuty, AnyPart, Duty};
 pub use entry::{Act, Entry, Why};
+pub use journal::{Journal, Memory, Room};
 pub use reads::FetchNo;
 pub use span::Span;
-pub use journal::{Journal, Memory, Room};

@@ -11,8 +11,8 @@ ghost use Rattle.bus_hub.specs.Fetch.{IsServed, IsUnmapped, IsReachable};
 ghost use Rattle.bus_hub.specs.Told.{Asks, asked, with_device, fetched, fetch_items, added, IsSplit, IsBothParts, Fetches, HasFetchCause};
 
 use crate::bus::Bus;
-use crate::entry::{Act, Entry};
 use crate::duty::Duty;
+use crate::entry::{Act, Entry};
 use crate::span::{Span, read_parts, span_in};
 use core_state::{Records, Regs};
 use crash_images::Crash;

@@ -92,7 +92,10 @@ impl<D: Crash, K: Duty> Bus<D, K> {
         requires running { IsSome self.old.running }
         ensures exact { IfSome self.old.running
             (λ run. self.new ≡ after_poll K.after self.old run regs result self.new.dev) }
+        ensures busy { result ≡ Ok answers.Busy → self.new.running ≡ self.old.running }
         ensures left { result ≡ Ok answers.Busy → D.left self.new.dev < D.left self.old.dev }
+        ensures ready { result ≡ Ok answers.Ready → self.new.running ≡ None }
+        ensures refused { OnErr result (self.new.running ≡ None) }
         ensures device { Polls D.bytes D.off D.steps D.faults D.setting D.may_end D.may_tear
             self.old.dev self.new.dev (step_of self.old.running) result }
     {
@@ -130,7 +133,10 @@ impl<D: Crash, K: Duty> Bus<D, K> {
             (held (D.bytes self.new.dev)) result) }
         ensures exact { IfSome self.old.running (λ run. self.new
             ≡ after_poll K.after self.old run (record_of self.old c).regs result self.new.dev) }
+        ensures busy { result ≡ Ok answers.Busy → self.new.running ≡ self.old.running }
         ensures left { result ≡ Ok answers.Busy → D.left self.new.dev < D.left self.old.dev }
+        ensures ready { result ≡ Ok answers.Ready → self.new.running ≡ None }
+        ensures refused { OnErr result (self.new.running ≡ None) }
         ensures cause { HasCause (D.faults self.old.dev) (D.faults self.new.dev)
             (D.off self.new.dev) result }
         ensures leaves { IsSafe ⟦<Bus<D, K> as Records>⟧.stands D.may_leave K.good self.new }
