@@ -5,3 +5,4 @@ pub mod Places
 pub mod Maps
 pub mod Addresses
 pub mod Empty
+pub mod InPage

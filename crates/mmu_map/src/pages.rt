@@ -119,6 +119,7 @@ impl Pages {
     pub fn translate(&self, at: u32) -> Option<u32>
         ensures exact { result ≡ translated self.now at }
         ensures fits { IfSome result (λ to. to < 2 ^ 24) }
+        ensures low { IfSome result (λ to. at < 0x40400000) }
     {
         let place = Place::of(at)?;
         let flash_page = match place.space {

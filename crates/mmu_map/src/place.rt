@@ -28,6 +28,7 @@ impl Place {
     pub(crate) fn of(at: u32) -> Option<Place>
         ensures exact { result ≡ place_of at }
         ensures within { IfSome result (λ place. place.page < pages_in place.space) }
+        ensures low { IfSome result (λ place. at < 0x40400000) }
     {
         if is_data(at) {
             return Some(Place {

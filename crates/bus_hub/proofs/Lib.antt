@@ -1,0 +1,14 @@
+pub mod Logs
+pub mod Adds
+pub mod Quiet
+pub mod Stepping
+pub mod Goodness
+pub mod Opening
+pub mod Spans
+pub mod Fetching
+pub mod Parts
+pub mod Rooms
+pub mod LegalLog
+pub mod FlashLog
+pub mod Facts
+pub mod Stops

@@ -1,0 +1,9 @@
+pub mod Room
+pub mod JournalView
+pub mod Fetch
+pub mod Log
+pub mod Hub
+pub mod Shares
+pub mod Legal
+pub mod HubView
+pub mod Told

@@ -1,0 +1,24 @@
+//! The bus between the two cores and the flash: device, pages, journal and duty.
+#![tactic(auto)]
+
+mod bus;
+mod did;
+mod duty;
+mod entry;
+mod journal;
+mod laws;
+mod maps;
+mod reads;
+mod registers;
+mod span;
+mod steps;
+#[cfg(test)]
+mod tests;
+
+pub use bus::Bus;
+pub use did::{Base, Did, Running};
+pub use duty::{AnyDuty, AnyPart, Duty};
+pub use entry::{Act, Entry, Why};
+pub use journal::{Journal, Memory, Room};
+pub use reads::FetchNo;
+pub use span::Span;
