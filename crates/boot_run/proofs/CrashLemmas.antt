@@ -50,15 +50,15 @@ left_verdict layout size flash left write placed is after =
     (subst (λ w. LeftAfter flash (rewrite layout.otadata w) left) is.is after))
 
 -- each of the rewrites gives the entry that stands in its sector by then another state
-abbrev pub AreRestated : Places → List ℕ → List Rewrite → Type 0
-AreRestated layout flash [] = Unit {0}
-AreRestated layout flash (write ∷ writes) =
+abbrev pub AreRestatedOn : Places → List ℕ → List Rewrite → Type 0
+AreRestatedOn layout flash [] = Unit {0}
+AreRestatedOn layout flash (write ∷ writes) =
     IsRestated (entries_in layout flash) write
-    × AreRestated layout (after_steps flash (rewrite layout.otadata write)) writes
+    × AreRestatedOn layout (after_steps flash (rewrite layout.otadata write)) writes
 
 -- so does each rewrite of a boot
 pub boot_restated : (layout : Places) (size : ℕ) (flash : List ℕ) (writes : List Rewrite) → IsPlaced layout size
-    → AreRewrites (entries_in layout flash) writes → AreRestated layout flash writes
+    → AreRewrites (entries_in layout flash) writes → AreRestatedOn layout flash writes
 boot_restated layout size flash [] placed are = tt
 boot_restated layout size flash (w ∷ []) placed are = (are, tt)
 boot_restated layout size flash (w ∷ v ∷ []) placed are =
@@ -75,7 +75,7 @@ boot_restated layout size flash (w ∷ v ∷ u ∷ ws) placed are = absurd are
 
 -- of what is left of rewrites boots what a verdict on one of them gives
 pub left_verdicts : (layout : Places) (size : ℕ) (flash left : List ℕ) (writes : List Rewrite) → IsPlaced layout size
-    → AreRestated layout flash writes → LeftAfter flash (rewrites layout.otadata writes) left
+    → AreRestatedOn layout flash writes → LeftAfter flash (rewrites layout.otadata writes) left
     → LeavesVerdicts layout flash writes left
 left_verdicts layout size flash left [] placed are after = left_none flash left after
 left_verdicts layout size flash left (write ∷ writes) placed are after =
@@ -98,7 +98,7 @@ left_boots layout size flash left writes placed short after some =
 
 -- a boot that was broken off
 pub told_verdicts : (layout : Places) (size : ℕ) (writes : List ℕ → List Rewrite) (old new : Option (List ℕ))
-    → IsPlaced layout size → ((flash : List ℕ) → old ≡ Some flash → AreRestated layout flash (writes flash))
+    → IsPlaced layout size → ((flash : List ℕ) → old ≡ Some flash → AreRestatedOn layout flash (writes flash))
     → IfSome old (λ flash. IsLeftOf (rewrites layout.otadata (writes flash)) old new)
     → IsLeftByVerdicts layout writes old new
 told_verdicts layout size writes None new placed are left = tt

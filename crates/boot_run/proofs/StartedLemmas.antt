@@ -20,6 +20,7 @@ use Rattle.rollback.specs.declared.rewrite.Rewrite.{Rewrite}
 use Rattle.rollback.specs.Rewrite.{written}
 use Rattle.rollback.specs.Boot.{boot_writes}
 use Rattle.rollback.specs.Boots.{boots}
+use Rattle.rollback.proofs.EntriesLemmas.{boots_same, writes_same}
 use Rattle.boot_run.specs.declared.booted.Booted.{Booted}
 use Rattle.boot_run.specs.Rewriting.{rewrite, rewrites}
 use Rattle.boot_run.specs.Read.{OfEntries}
@@ -27,7 +28,7 @@ use Rattle.boot_run.specs.Verified.{IsFirst}
 use Rattle.boot_run.specs.Crashed.{IsLeftByVerdicts}
 use Rattle.boot_run.specs.Booted.{IsBoot}
 use Rattle.boot_run.proofs.FrameLemmas.{AreShort, left_images}
-use Rattle.boot_run.proofs.WritesLemmas.{AreRewrites, boot_are, boot_short, boots_same, writes_same}
+use Rattle.boot_run.proofs.WritesLemmas.{AreRewrites, boot_are, boot_short}
 use Rattle.boot_run.proofs.CrashLemmas.{boot_restated, left_verdicts}
 
 -- the answer of a boot, by the application that was started
@@ -90,7 +91,7 @@ read_boots layout e0 e1 old mid (Err why) same first second boots = boots
 read_boots layout e0 e1 None mid (Ok booted) same first second boots = tt
 read_boots layout e0 e1 (Some flash) mid (Ok booted) same first second boots =
     is_boot_same layout (images_in held layout flash) (sectors e0 e1) (entries_in layout flash) booted
-    (boots_same layout (images_in held layout flash) (sectors e0 e1) (entries_in layout flash) first second)
+    (boots_same layout (images_in held layout flash) (entries_in layout flash) (sectors e0 e1) first second)
     (subst (λ (m : Option (List ℕ)). IfSome m (λ f. IsBoot layout (images_in held layout f) (sectors e0 e1) booted)) same boots)
 
 -- what holds of the rewrites by the entries that were read
@@ -103,7 +104,7 @@ read_steps layout e0 e1 (Some flash) Q first second holds = record {
   entries = entries_in layout flash;
   read = refl;
   holds = subst (λ ws. Q (rewrites layout.otadata ws))
-      (writes_same (sectors e0 e1) (entries_in layout flash) first second) holds;
+      (writes_same (entries_in layout flash) (sectors e0 e1) first second) holds;
 }
 
 -- what holds of any entries
@@ -133,7 +134,7 @@ pub record AreBy (writes : (ℕ → Entry) → List Rewrite) : Type 0 where
 
 -- those of a boot
 pub boot_by : AreBy boot_writes
-boot_by = record { are = boot_are; same = writes_same }
+boot_by = record { are = boot_are; same = λ es gs first second. writes_same gs es first second }
 
 -- what is left of rewrites that were broken off
 pub left_crash : (layout : Places) (size : ℕ) (writes : List ℕ → List Rewrite) (made : List Rewrite)
@@ -203,7 +204,7 @@ seen_boot layout flash e0 e1 first second writes apps steps started zeroth other
     (λ i. named_of layout (one i) (two i)) ∙ ap (λ ws. names layout (written ws es)) is in
     let here = subst (λ l. IsFirst images l started) (all ∙ ap (candidates layout) named) found in
     is_boot_same layout images es (entries_in layout flash) (booted_of steps started)
-    (boots_same layout images es (entries_in layout flash) zeroth other)
+    (boots_same layout images (entries_in layout flash) es zeroth other)
     (first_is_boot layout images es steps started here)
 
 -- how many steps the rewrites of a flash are
@@ -211,6 +212,6 @@ pub seen_steps : (layout : Places) (flash : List ℕ) (e0 e1 : Entry) (writes : 
     → e0 ≡ entries_in layout flash 0 → e1 ≡ entries_in layout flash 1 → writes ≡ boot_writes (sectors e0 e1)
     → n ≡ length writes → 2 * n ≡ length (rewrites layout.otadata (boot_writes (entries_in layout flash)))
 seen_steps layout flash e0 e1 writes n zeroth other is long =
-    let same = is ∙ writes_same (sectors e0 e1) (entries_in layout flash) zeroth other in
+    let same = is ∙ writes_same (entries_in layout flash) (sectors e0 e1) zeroth other in
     omega (arith, long, ap (λ (l : List Rewrite). length l) same,
     length-rewrites layout.otadata (boot_writes (entries_in layout flash)))

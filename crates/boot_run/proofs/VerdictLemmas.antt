@@ -10,7 +10,6 @@ use Rattle.partition_table.specs.Layout.{Places}
 use Rattle.boot_select.specs.Choice.{named_by, named_of, slot_app}
 use Rattle.boot_select.specs.Settled.{sectors}
 use Rattle.boot_select.specs.Boots.{AreTold, entries_in, images_in, names}
-use Rattle.boot_select.proofs.StartLemmas.{names_a_start, started-held}
 use Rattle.rollback.specs.declared.rewrite.Rewrite.{Rewrite}
 use Rattle.rollback.specs.declared.verdict.NoOtaApp.{NoOtaApp}
 use Rattle.rollback.specs.declared.verdict.RejectNo.{RejectNo}
@@ -18,6 +17,7 @@ use Rattle.rollback.specs.declared.verdict.RejectNo.TheVariants as no
 use Rattle.rollback.specs.Rewrite.{changed, restated}
 use Rattle.rollback.specs.Verdict.{confirm_by, confirm_of, is_other, reject_as, reject_by, reject_of, started_after}
 use Rattle.image_verify.specs.Held.{held}
+use Rattle.rollback.proofs.VerdictLemmas.{reject-told}
 use Rattle.boot_run.specs.Read.{OfWhole, whole_in}
 use Rattle.boot_run.specs.Crashed.{IsRestated}
 use Rattle.boot_run.specs.Verdict.{confirmation, just_one, one_of, rejection, writes_of}
@@ -129,29 +129,6 @@ reject_two layout whole e0 e1 write is =
     (reject_are layout whole (sectors e0 e1)) in
     one.two
 
--- truth values tell what it rewrites
-pub reject_told : (layout : Places) (whole : App → Bool) (images : App → Option (List ℕ)) (e0 e1 : Entry)
-    → AreTold layout whole images → 0 < length layout.slots
-    → reject_of layout whole e0 e1 ≡ reject_of layout (λ app. is_some (images app)) e0 e1
-unfolding reject_of
-reject_told layout whole images e0 e1 told some = at (active_of e0 e1)
-  where
-    started : (es : ℕ → Entry) (write : Rewrite) → started_after layout whole es write
-        ≡ started_after layout (λ app. is_some (images app)) es write
-    started es write =
-        let start = names_a_start layout (changed write es) some in
-        started-held layout whole images (names layout (changed write es)) told start
-        ∙ sym (started-held layout (λ app. is_some (images app)) images (names layout (changed write es))
-        (λ app found. refl) start)
-
-    at : (active : Option ℕ) → reject_by layout whole (sectors e0 e1) active
-        ≡ reject_by layout (λ app. is_some (images app)) (sectors e0 e1) active
-    at None = refl
-    at (Some y) =
-        let es = sectors e0 e1 in
-        let write = restated 3 y (es y) in
-        ap (reject_as write (slot_app layout (es y))) (started es write)
-
 -- ---- by what was read
 
 -- what holds of the entries and the truth values that were read
@@ -198,5 +175,5 @@ pub rejection_same : (layout : Places) (e0 e1 : Entry) (whole : App → Bool) (t
     ≡ writes_of (rejection layout (whole_in layout flash) (entries_in layout flash)))
 rejection_same layout e0 e1 whole None some first second tells = tt
 rejection_same layout e0 e1 whole (Some flash) some first second tells =
-    ap (λ r. writes_of (just_one r)) (reject_told layout whole (images_in held layout flash) e0 e1 tells some)
+    ap (λ r. writes_of (just_one r)) (reject-told layout whole (images_in held layout flash) e0 e1 tells some)
     ∙ (λ i. writes_of (just_one (reject_of layout (whole_in layout flash) (first i) (second i))))

@@ -16,7 +16,7 @@ use Rattle.rollback.specs.Boot.{abort, aborts, begin, begin_by, begin_in, boot_w
 use Rattle.rollback.specs.Boots.{boots}
 use Rattle.rollback.specs.Pair.{other_of}
 use Rattle.rollback.proofs.BootLemmas.{boot_writes-parts}
-use Rattle.rollback.proofs.VoteLemmas.{vote, pick, named_seq, boots_votes}
+use Rattle.rollback.proofs.EntriesLemmas.{written_same}
 use Rattle.boot_run.specs.Crashed.{IsRestated}
 use Rattle.boot_run.proofs.FrameLemmas.{AreShort}
 
@@ -113,23 +113,7 @@ boot_two es (w ∷ v ∷ []) are =
     (All-cons (λ (write : Rewrite). write.sector < 2) v [] are.1.two (All-nil (λ (write : Rewrite). write.sector < 2)))
 boot_two es (w ∷ v ∷ u ∷ ws) are = absurd are
 
--- ---- only the entries of the two sectors count
-
--- the rewrites of a boot
-pub writes_same : (es gs : ℕ → Entry) → es 0 ≡ gs 0 → es 1 ≡ gs 1 → boot_writes es ≡ boot_writes gs
-writes_same es gs first second =
-    boot_writes-parts es
-    ∙ (λ i. (abort 0 (first i) ++ abort 1 (second i)) ++ begin (given_up (first i)) (given_up (second i)))
-    ∙ sym (boot_writes-parts gs)
-
--- the entries after rewrites
-pub written_same : (writes : List Rewrite) (es gs : ℕ → Entry) → es 0 ≡ gs 0 → es 1 ≡ gs 1
-    → (written writes es 0 ≡ written writes gs 0) × (written writes es 1 ≡ written writes gs 1)
-written_same [] es gs first second = (first, second)
-written_same (w ∷ ws) es gs first second =
-    written_same ws (changed w es) (changed w gs)
-    (ap (λ e. if 0 == w.sector then w.entry else e) first)
-    (ap (λ e. if 1 == w.sector then w.entry else e) second)
+-- ---- one after the other
 
 -- rewrites go on from the entries after the first one
 pub written_more : (ws : List Rewrite) (i : ℕ) (d : Rewrite) (es gs : ℕ → Entry) → i < length ws
@@ -139,17 +123,11 @@ written_more ws i d es gs inside first second =
     let next : i + 1 ≡ suc i = omega arith in
     let front : drop i ws ≡ get_or ws i d ∷ drop (i + 1) ws =
     drop-cons ws i d inside ∙ ap (λ n. get_or ws i d ∷ drop n ws) (sym next) in
-    let same = written_same (drop (i + 1) ws) gs (changed (get_or ws i d) es) first second in
-    (same.0 ∙ ap (λ l. written l es 0) (sym front), same.1 ∙ ap (λ l. written l es 1) (sym front))
+    let after = changed (get_or ws i d) es in (
+      written_same (drop (i + 1) ws) after gs 0 first ∙ ap (λ l. written l es 0) (sym front),
+      written_same (drop (i + 1) ws) after gs 1 second ∙ ap (λ l. written l es 1) (sym front),
+    )
 
 -- no rewrite is left
 pub written_all : (ws : List Rewrite) (i : ℕ) (es : ℕ → Entry) (y : ℕ) → length ws ≤ i → written (drop i ws) es y ≡ es y
 written_all ws i es y all = ap (λ l. written l es y) (drop_all i ws all)
-
--- what boots
-pub boots_same : (layout : Places) (images : App → Option (List ℕ)) (es gs : ℕ → Entry) → es 0 ≡ gs 0
-    → es 1 ≡ gs 1 → boots layout images es ≡ boots layout images gs
-boots_same layout images es gs first second =
-    boots_votes layout images es
-    ∙ (λ i. first_held images (candidates layout (named_seq layout (pick (vote (first i)) (vote (second i))))))
-    ∙ sym (boots_votes layout images gs)

@@ -1,10 +1,9 @@
 -- The entries that a device has, and which of its applications are whole.
 use Rattle.std.specs.Prelude.{◌≡◌, ℕ, Bool, List, Option, IfSome}
-use Rattle.std.specs.Option.{is_some}
 use Rattle.otadata.specs.declared.entry.Entry.{Entry}
 use Rattle.partition_table.specs.declared.app.App.{App}
 use Rattle.partition_table.specs.Layout.{Places}
-use Rattle.boot_select.specs.Boots.{AreTold, entries_in, images_in}
+use Rattle.boot_select.specs.Boots.{AreTold, entries_in, has_image, images_in}
 use Rattle.image_verify.specs.Held.{held}
 
 -- this holds of the entries of a device: of those in its bytes, where it tells them, else of some
@@ -15,7 +14,7 @@ pub record OfEntries (layout : Places) (told : Option (List ℕ)) (P : (ℕ → 
 
 -- whether an application of a flash is whole
 abbrev pub whole_in : Places → List ℕ → App → Bool
-whole_in layout flash app = is_some (images_in held layout flash app)
+whole_in layout flash = has_image (images_in held layout flash)
 
 -- this holds of the entries of a device, and of truth values that tell which applications are whole
 pub record OfWhole (layout : Places) (told : Option (List ℕ))
