@@ -77,5 +77,5 @@ fn verify_in(flash: &[u8], row: &Row) -> Option<ImageInfo>
     ensures verified { IsVerified (slot_in flash.now row.now) result }
 {
     let start = row.offset as usize;
-    verify_slot(&flash[start..start + row.size as usize]).ok()
+    verify_slot(&flash[start..start + row.size as usize])
 }
