@@ -8,3 +8,4 @@ pub mod CrashLemmas
 pub mod StartedLemmas
 pub mod VerdictLemmas
 pub mod WholeLemmas
+pub mod AimLemmas

@@ -1,6 +1,5 @@
 -- The rewrite of a confirmation and of a rejection: of the active entry, as it stands.
 use Rattle.std.proofs.Common.{◌==◌, ◌≡◌, ℕ, zero, suc, ◌<◌, Bool, true, false, List, [], length, Option, Some, None, IsSome, IfSome, Result, Ok, Err, refl, sym, ap, ◌∙◌, subst, if◌then◌else◌, arith}
-use Rattle.std.specs.Option.{is_some}
 use Rattle.otadata.specs.declared.entry.Entry.{Entry}
 use Rattle.otadata.specs.Choice.{active_of}
 use Rattle.otadata.proofs.ChoiceLemmas.{active-lt}
@@ -9,13 +8,13 @@ use Rattle.partition_table.specs.declared.app.App.TheVariants.{Ota}
 use Rattle.partition_table.specs.Layout.{Places}
 use Rattle.boot_select.specs.Choice.{named_by, named_of, slot_app}
 use Rattle.boot_select.specs.Settled.{sectors}
-use Rattle.boot_select.specs.Boots.{AreTold, entries_in, images_in, names}
+use Rattle.boot_select.specs.Boots.{AreTold, entries_in, images_in}
 use Rattle.rollback.specs.declared.rewrite.Rewrite.{Rewrite}
 use Rattle.rollback.specs.declared.verdict.NoOtaApp.{NoOtaApp}
 use Rattle.rollback.specs.declared.verdict.RejectNo.{RejectNo}
 use Rattle.rollback.specs.declared.verdict.RejectNo.TheVariants as no
-use Rattle.rollback.specs.Rewrite.{changed, restated}
-use Rattle.rollback.specs.Verdict.{confirm_by, confirm_of, is_other, reject_as, reject_by, reject_of, started_after}
+use Rattle.rollback.specs.Rewrite.{restated}
+use Rattle.rollback.specs.Verdict.{confirm_by, confirm_of, is_other, reject_by, reject_of, started_after}
 use Rattle.image_verify.specs.Held.{held}
 use Rattle.rollback.proofs.VerdictLemmas.{reject-told}
 use Rattle.boot_run.specs.Read.{OfWhole, whole_in}

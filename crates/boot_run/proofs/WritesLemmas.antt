@@ -1,19 +1,14 @@
 -- The rewrites of a boot: at most two, of different sectors, and each gives the entry that stands there another state.
-use Rattle.std.proofs.Common.{◌==◌, ◌≡◌, ◌⊎◌, inl, inr, ℕ, zero, suc, ◌<◌, ◌≤◌, true, false, List, [], ◌∷◌, ◌++◌, length, get_or, drop, ◌+◌, Option, Some, None, refl, sym, ap, ◌∙◌, subst, if◌then◌else◌, arith, All}
+use Rattle.std.proofs.Common.{◌==◌, ◌≡◌, ◌⊎◌, inl, inr, ℕ, zero, suc, ◌<◌, ◌≤◌, true, false, List, [], ◌∷◌, ◌++◌, length, get_or, drop, ◌+◌, Option, Some, None, refl, sym, ap, ◌∙◌, subst, arith, All}
 use Rattle.std.proofs.Math.Seq.{drop-cons}
 use Rattle.std.proofs.lemmas.Bool.{cases_Bool}
 use Rattle.std.proofs.lemmas.List.{drop_all}
 use Rattle.std.proofs.lemmas.List.Elements.{All-nil, All-cons}
 use Rattle.otadata.specs.declared.entry.Entry.{Entry}
 use Rattle.otadata.specs.Choice.{active_of}
-use Rattle.partition_table.specs.declared.app.App.{App}
-use Rattle.partition_table.specs.Layout.{Places}
-use Rattle.boot_select.specs.Candidates.{candidates}
-use Rattle.boot_select.specs.Boots.{first_held}
 use Rattle.rollback.specs.declared.rewrite.Rewrite.{Rewrite}
 use Rattle.rollback.specs.Rewrite.{changed, restated, written}
-use Rattle.rollback.specs.Boot.{abort, aborts, begin, begin_by, begin_in, boot_writes, given_up}
-use Rattle.rollback.specs.Boots.{boots}
+use Rattle.rollback.specs.Boot.{aborts, begin, begin_by, begin_in, boot_writes, given_up}
 use Rattle.rollback.specs.Pair.{other_of}
 use Rattle.rollback.proofs.BootLemmas.{boot_writes-parts}
 use Rattle.rollback.proofs.EntriesLemmas.{written_same}

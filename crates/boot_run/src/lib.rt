@@ -1,6 +1,8 @@
 //! The bootloader on a device: what it rewrites, and which application it starts.
 #![tactic(auto)]
 
+mod aiming;
+mod aims;
 mod booted;
 mod booting;
 mod confirming;
@@ -13,6 +15,8 @@ mod verify;
 mod whole;
 mod write;
 
+pub use aiming::aim;
+pub use aims::{Aim, AimNo};
 pub use booted::{BootFault, Booted};
 pub use booting::boot;
 pub use confirming::confirm;
