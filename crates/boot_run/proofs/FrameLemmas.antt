@@ -14,6 +14,7 @@ use Rattle.partition_table.specs.Layout.{Places, row_for, Apart, IsPlaced, layou
 use Rattle.partition_table.specs.Table.{table_of}
 use Rattle.otadata.specs.declared.entry.Entry.{Entry}
 use Rattle.otadata.specs.Entry.{entry_of, entry_bytes}
+use Rattle.otadata.proofs.EntryLemmas.{length-entry_bytes}
 use Rattle.boot_select.specs.Boots.{entries_in, image_by, images_in}
 use Rattle.rollback.specs.declared.rewrite.Rewrite.{Rewrite}
 use Rattle.rollback.specs.Pair.{other_of}
@@ -48,12 +49,6 @@ same_layout Stays old new covers agrees =
     ∙ ap (λ n. layout_by (table_of (part_of old 0x8000 0xC00) n)) agrees.same_length
 
 -- ---- a rewrite keeps to its sector
-
--- as many bytes as the label has, and twelve more
-pub length-entry_bytes : (e : Entry) → length (entry_bytes e) ≡ 12 + length e.label
-unfolding entry_bytes
-length-entry_bytes e =
-    simp length-append (omega arith)
 
 -- the steps of a rewrite change its sector alone
 pub rewrite_within : (otadata : ℕ) (write : Rewrite) → otadata % 4096 ≡ 0 → length write.entry.label ≤ 20

@@ -9,3 +9,4 @@ pub mod StartedLemmas
 pub mod VerdictLemmas
 pub mod WholeLemmas
 pub mod AimLemmas
+pub mod StoredLemmas
