@@ -10,3 +10,4 @@ pub mod VerdictLemmas
 pub mod WholeLemmas
 pub mod AimLemmas
 pub mod StoredLemmas
+pub mod ConfirmedLemmas
