@@ -1,5 +1,5 @@
 -- The steps of an erase, and a write to what is erased.
-use Rattle.std.proofs.Common.{◌≡◌, ◌≤◌, ◌<◌, ℕ, zero, suc, ◌+◌, ◌-◌, ◌*◌, ◌/◌, ◌%◌, List, ◌++◌, length, take, drop, get_or, inl, inr, refl, sym, ap, subst, ◌∙◌, arith, length-drop}
+use Rattle.std.proofs.Common.{◌≡◌, ◌≤◌, ◌<◌, ℕ, zero, suc, ◌+◌, ◌-◌, ◌*◌, ◌/◌, ◌%◌, List, [], ◌∷◌, ◌++◌, length, take, drop, get_or, inl, inr, refl, sym, ap, subst, ◌∙◌, arith, length-drop}
 use Rattle.std.specs.Prelude.{bit_and, replicate, slice_index, ◌⊎◌}
 use Rattle.std.specs.List.{All, AllByRecursion}
 use Rattle.std.proofs.Math.Nat.{mod-eq_of_lt}
@@ -58,6 +58,36 @@ follow_of_erase at len begins ends =
     subst (λ (to : ℕ). FollowOn at to (erases (len / 4096) (at / 4096))) to
     (subst (λ (from : ℕ). FollowOn from ((at / 4096 + len / 4096) * 4096) (erases (len / 4096) (at / 4096))) from
     (follow_of_erases (len / 4096) (at / 4096)))
+
+erases-add : (m n sector : ℕ)
+    → erases (m + n) sector ≡ erases m sector ++ erases n (sector + m)
+unfolding erases
+erases-add zero n sector =
+    let none : zero + n ≡ n = omega arith in
+    let here : sector ≡ sector + zero = omega arith in
+    ap (λ k. erases k sector) none ∙ ap (λ k. erases n k) here
+erases-add (suc m) n sector =
+    let one : suc m + n ≡ suc (m + n) = omega arith in
+    let to : sector + 1 + m ≡ sector + suc m = omega arith in
+    ap (λ k. erases k sector) one
+    ∙ ap (λ steps. Erase sector ∷ steps) (erases-add m n (sector + 1))
+    ∙ ap (λ k. Erase sector ∷ (erases m (sector + 1) ++ erases n k)) to
+
+-- an erase in pieces that are made of sectors is one erase
+pub pieces_of_erase : (at first rest : ℕ) → at % 4096 ≡ 0 → first % 4096 ≡ 0
+    → erase_steps at (first + rest) ≡ erase_steps at first ++ erase_steps (at + first) rest
+unfolding erase_steps
+pieces_of_erase at first rest begins ends =
+    let count : (first + rest) / 4096 ≡ first / 4096 + rest / 4096 = omega arith in
+    let from : at / 4096 + first / 4096 ≡ (at + first) / 4096 = omega arith in
+    ap (λ n. erases n (at / 4096)) count
+    ∙ erases-add (first / 4096) (rest / 4096) (at / 4096)
+    ∙ ap (λ k. erases (first / 4096) (at / 4096) ++ erases (rest / 4096) k) from
+
+-- a sector is one erase
+pub one_erase : (at : ℕ) → erase_steps at 4096 ≡ Erase (at / 4096) ∷ []
+unfolding erase_steps erases
+one_erase at = refl
 
 -- ---- what they leave
 

@@ -5,3 +5,4 @@ mod FollowLemmas
 mod JoinLemmas
 pub mod WriteLemmas
 pub mod EraseLemmas
+pub mod PartLemmas

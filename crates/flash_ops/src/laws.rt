@@ -1,9 +1,13 @@
 //! What the steps of every write and every erase make of a flash.
 
-ghost use Rattle.std.specs.Prelude.{◌≡◌, ◌≤◌, ◌<◌, ◌+◌, ◌/◌, ◌%◌, ℕ, All, List, [], ◌∷◌, ◌++◌, length, replicate};
+ghost use Rattle.std.specs.Prelude.{◌≡◌, ◌≤◌, ◌<◌, ◌+◌, ◌/◌, ◌%◌, ℕ, All, List, [], ◌∷◌, ◌++◌, length, replicate, Ok};
 ghost use Rattle.std.specs.List.{AllByRecursion};
-ghost use Rattle.nor_device.specs.declared.step.Step.TheVariants.{Program};
+ghost use Rattle.nor_device.specs.declared.step.Step.TheVariants.{Erase, Program};
 ghost use Rattle.nor_device.specs.Flash.{after_steps, applied};
+ghost use Rattle.partition_table.specs.declared.row.Row.{Row as Shown};
+ghost use Rattle.partition_table.specs.Rules.{FitsFlash};
+ghost use Rattle.flash_ops.specs.Parts.{LiesInPart, part_erase_steps, part_write_steps};
+ghost use Rattle.flash_ops.specs.Rules.{erase_checked, write_checked};
 ghost use Rattle.flash_ops.specs.Steps.{FollowOn, IsErase, IsErasedAt, IsPageProgram, LiesIn, erase_steps, pages_in, with_part, write_steps};
 
 /// A write is as many programs as it touches pages, each of at least one byte in one page; they lie
@@ -31,9 +35,11 @@ pub fn laws_of_writes()
 {}
 
 /// An erase is as many erases as it has sectors; they lie in its range and follow one another, and
-/// leave 0xFF there and all else as before. Bytes that are written there then stand there.
+/// leave 0xFF there and all else as before. Pieces that are made of sectors are one erase, and bytes
+/// that are written there then stand there.
 pub fn laws_of_erases()
     ensures count { (at len : ℕ) → length (erase_steps at len) ≡ len / 4096 }
+    ensures one { (at : ℕ) → erase_steps at 4096 ≡ Erase (at / 4096) ∷ [] }
     ensures erases { (at len : ℕ) → AllByRecursion IsErase (erase_steps at len) }
     ensures follow { (at len : ℕ) → at % 4096 ≡ 0 → len % 4096 ≡ 0
         → FollowOn at (at + len) (erase_steps at len) }
@@ -42,9 +48,22 @@ pub fn laws_of_erases()
     ensures bytes { (at len : ℕ) (flash : List ℕ) → at % 4096 ≡ 0 → len % 4096 ≡ 0
         → at + len ≤ length flash
         → after_steps flash (erase_steps at len) ≡ with_part at (replicate len 255) flash }
+    ensures pieces { (at first rest : ℕ) → at % 4096 ≡ 0 → first % 4096 ≡ 0
+        → erase_steps at (first + rest) ≡ erase_steps at first ++ erase_steps (at + first) rest }
     ensures anew { (from len at : ℕ) (bytes flash : List ℕ) → from % 4096 ≡ 0 → len % 4096 ≡ 0
         → from ≤ at → at + length bytes ≤ from + len → from + len ≤ length flash
         → All (λ b. b < 256) bytes
         → after_steps flash (erase_steps from len ++ write_steps at bytes)
         ≡ with_part at bytes (with_part from (replicate len 255) flash) }
+{}
+
+/// The steps of a write and of an erase of a partition stay inside it; where they are refused, there
+/// are none.
+pub fn laws_of_parts()
+    ensures write { (rows : List Shown) (label : List ℕ) (offset : ℕ) (bytes : List ℕ) (row : Shown)
+        → write_checked rows label offset (length bytes) ≡ Ok row
+        → AllByRecursion (LiesInPart row) (part_write_steps rows label offset bytes) }
+    ensures erase { (flash : ℕ) (rows : List Shown) (label : List ℕ) (offset len : ℕ) (row : Shown)
+        → FitsFlash flash rows → erase_checked rows label offset len ≡ Ok row
+        → AllByRecursion (LiesInPart row) (part_erase_steps rows label offset len) }
 {}
