@@ -1,15 +1,14 @@
 -- One more item at the end of the log, and none.
-use Rattle.std.specs.Prelude.{◌≡◌, ◌==◌, ℕ, zero, suc, ◌+◌, ◌<◌, ◌≤◌, Bool, true, false, cond, List, [], ◌∷◌, ◌++◌, refl, Option, Some, None}
+use Rattle.std.specs.Prelude.{◌≡◌, ◌==◌, ℕ, zero, suc, ◌<◌, ◌≤◌, Bool, cond, List, [], ◌∷◌, ◌++◌, Option, Some}
 use Rattle.std.proofs.Common.{◌∙◌, sym, ap, subst, arith, append-nil}
-use Rattle.core_state.specs.declared.registers.Record.{Record}
-use Rattle.core_state.specs.Sharing.{in_order, GoesOn}
+use Rattle.core_state.specs.Sharing.{GoesOn}
 use Rattle.nor_device.specs.declared.step.Step.{Step}
 use Rattle.nor_device.specs.declared.nor.StepEnd.{StepEnd}
 use Rattle.nor_device.specs.declared.nor.NorFault.{NorFault}
 use Rattle.bus_hub.specs.declared.did.Did.{Did}
 use Rattle.bus_hub.specs.declared.did.Base.{Base}
-use Rattle.bus_hub.specs.Log.{Item, item, of_core, State, change, reached, Rule, Ruled, Stood}
-use Rattle.bus_hub.specs.Hub.{Hub, state_of, begun, Fits, room_of, PowerIs, Stands}
+use Rattle.bus_hub.specs.Log.{item, of_core, State, change, reached, Rule}
+use Rattle.bus_hub.specs.Hub.{Hub, state_of, begun, Fits, PowerIs, Stands}
 use Rattle.bus_hub.proofs.Logs.{of_core-append, reached-append, ruled-append, Keeps}
 
 module _ {D S K P : Type 0}

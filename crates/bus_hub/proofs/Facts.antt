@@ -1,5 +1,5 @@
 -- What a bus that stands for a base and two shares is, by the log.
-use Rattle.std.specs.Prelude.{◌≡◌, ◌≢◌, ℕ, zero, suc, ◌+◌, ◌<◌, ◌≤◌, Bool, List, [], ◌∷◌, length, refl, Option, Some, None}
+use Rattle.std.specs.Prelude.{◌≡◌, ◌≢◌, ℕ, zero, suc, ◌+◌, ◌<◌, ◌≤◌, Bool, List, length, refl, Option, None}
 use Rattle.std.proofs.Common.{◌∙◌, sym, ap, subst, arith}
 use Rattle.core_state.specs.Sharing.{in_order}
 use Rattle.nor_device.specs.declared.step.Step.{Step}
@@ -11,10 +11,10 @@ use Rattle.bus_hub.specs.declared.did.Did.{Did}
 use Rattle.bus_hub.specs.declared.did.Base.{Base}
 use Rattle.bus_hub.specs.Room.{HasRoom}
 use Rattle.bus_hub.specs.Log.{State, of_core, reached}
-use Rattle.bus_hub.specs.Hub.{Hub, Stands, begun, state_of, needs, byte_needs, owed, room_of, core_of}
-use Rattle.bus_hub.specs.Shares.{Begun, own_begun, open_from, made, made_from, moved_by, ShowsFlash}
+use Rattle.bus_hub.specs.Hub.{Hub, Stands, begun, needs, byte_needs, owed, room_of, core_of}
+use Rattle.bus_hub.specs.Shares.{own_begun, open_from, made, moved_by, ShowsFlash}
 use Rattle.bus_hub.specs.Legal.{LegalTo}
-use Rattle.bus_hub.proofs.Parts.{Knows, known_by_log}
+use Rattle.bus_hub.proofs.Parts.{known_by_log}
 use Rattle.bus_hub.proofs.Rooms.{spent, spent_log, bytes_log}
 use Rattle.bus_hub.proofs.LegalLog.{legal_log}
 use Rattle.bus_hub.proofs.FlashLog.{shows_log}

@@ -1,5 +1,5 @@
 -- A fetch, by its answer.
-use Rattle.std.specs.Prelude.{◌≡◌, ◌↔◌, ℕ, zero, suc, ◌+◌, ◌-◌, ◌<◌, ◌≤◌, Bool, true, false, IsTrue, List, [], ◌∷◌, ◌++◌, length, drop, refl, Option, Some, None, Result, Ok, Err, IfSome, IsErrOf, OnOk}
+use Rattle.std.specs.Prelude.{◌≡◌, ℕ, ◌<◌, Bool, false, List, [], ◌∷◌, length, drop, refl, Option, Some, None, Result, Ok, Err, IfSome}
 use Rattle.std.proofs.Common.{◌∙◌, sym, ap, subst, arith}
 use Rattle.std.proofs.Math.Seq.{drop_at}
 use Rattle.core_state.specs.declared.registers.Regs.{Regs}
@@ -8,22 +8,19 @@ use Rattle.nor_device.specs.declared.step.Step.{Step}
 use Rattle.nor_device.specs.declared.nor.StepEnd.{StepEnd}
 use Rattle.nor_device.specs.declared.nor.NorFault.{NorFault}
 use Rattle.nor_device.specs.declared.nor.NorFault.TheVariants.{Failed, Off}
-use Rattle.nor_device.specs.Nor.{HasCause}
-use Rattle.mmu_map.specs.Map.{Map}
 use Rattle.bus_hub.specs.declared.reads.FetchNo.{FetchNo}
 use Rattle.bus_hub.specs.declared.reads.FetchNo.TheVariants as refusals
 use Rattle.bus_hub.specs.declared.span.Span.{Span}
 use Rattle.bus_hub.specs.declared.did.Did.{Did}
 use Rattle.bus_hub.specs.declared.did.Did.TheVariants.{Fetched, Denied, Missed, Masked}
 use Rattle.bus_hub.specs.declared.did.Base.{Base}
-use Rattle.bus_hub.specs.Room.{Kept}
 use Rattle.bus_hub.specs.Log.{State, Rule, change}
 use Rattle.bus_hub.specs.Fetch.{IsReachable, IsUnmapped, IsRead, IsServed}
-use Rattle.bus_hub.specs.Hub.{Hub, Fits, Stands, PowerIs, record_of, state_of}
-use Rattle.bus_hub.specs.Told.{Asks, IsSplit, IsBothParts, IsFetched, IsDenied, Fetches, with_device, fetched, fetch_items, added, HasFetchCause}
-use Rattle.bus_hub.proofs.Adds.{adds, still}
+use Rattle.bus_hub.specs.Hub.{Hub, Fits, Stands, state_of}
+use Rattle.bus_hub.specs.Told.{Asks, IsSplit, IsBothParts, IsFetched, IsDenied, Fetches, with_device, fetched, fetch_items, added}
+use Rattle.bus_hub.proofs.Adds.{adds}
 use Rattle.bus_hub.proofs.Stepping.{denied, power_on, powered}
-use Rattle.bus_hub.proofs.Spans.{split_reaches, reachable_mapped, parts_read}
+use Rattle.bus_hub.proofs.Spans.{split_reaches, parts_read}
 
 module _ {D S K P : Type 0}
     (bytes : D → Option (List ℕ)) (size : D → ℕ) (off : D → Bool) (steps faults : D → ℕ)

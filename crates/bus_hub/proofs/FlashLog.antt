@@ -1,13 +1,11 @@
 -- The flash at an entry: the first one after the steps that were made before it.
-use Rattle.std.specs.Prelude.{◌≡◌, ℕ, ◌+◌, ◌<◌, List, [], ◌∷◌, ◌++◌, length, refl, Option, Some, None}
-use Rattle.std.proofs.Common.{◌∙◌, sym, ap, subst, arith}
-use Rattle.core_state.specs.declared.registers.Regs.{Regs}
+use Rattle.std.specs.Prelude.{◌≡◌, ℕ, List, [], ◌∷◌, ◌++◌, refl, Option, Some, None}
+use Rattle.std.proofs.Common.{◌∙◌, sym, ap, subst}
 use Rattle.nor_device.specs.declared.step.Step.{Step}
 use Rattle.nor_device.specs.declared.nor.StepEnd.{StepEnd}
 use Rattle.nor_device.specs.declared.nor.NorFault.{NorFault}
-use Rattle.nor_device.specs.Flash.{applied, after_steps}
-use Rattle.nor_device.specs.Torn.{Torn}
-use Rattle.nor_device.proofs.FlashLaws.{length_applied, after_steps_append}
+use Rattle.nor_device.specs.Flash.{after_steps}
+use Rattle.nor_device.proofs.FlashLaws.{after_steps_append}
 use Rattle.mmu_map.specs.Map.{Map}
 use Rattle.bus_hub.specs.declared.did.Running.{Running}
 use Rattle.bus_hub.specs.declared.did.Did.{Did}
@@ -15,7 +13,7 @@ use Rattle.bus_hub.specs.declared.did.Did.TheVariants.{Opened, Closed, Broken, F
 use Rattle.bus_hub.specs.Fetch.{IsRead}
 use Rattle.bus_hub.specs.Log.{Item, item, State, Runs, Rule, change, made_whole, reached}
 use Rattle.bus_hub.specs.Shares.{Begun, begun_of, steps_of, open_after, made_by, made_from, made, all_of, AreUnbroken, map_after_item, map_after_all, ShowsFlash}
-use Rattle.bus_hub.proofs.Logs.{Keeps, reached-append, ruled-front, ruled-back, kept}
+use Rattle.bus_hub.proofs.Logs.{Keeps, ruled-front, ruled-back}
 
 module _ {S K P : Type 0}
     (may_end : S → ℕ → StepEnd → Type 0) (may_tear : S → ℕ → List ℕ → Step → List ℕ → Type 0)

@@ -1,5 +1,5 @@
 -- A bus that was just made stands for its base and no shares.
-use Rattle.std.specs.Prelude.{◌≡◌, ℕ, ◌+◌, ◌<◌, ◌≤◌, Bool, true, false, List, [], ◌∷◌, refl, Option, Some, None}
+use Rattle.std.specs.Prelude.{◌≡◌, ℕ, Bool, true, false, List, [], refl, Option, Some}
 use Rattle.std.proofs.Common.{◌∙◌, sym, ap, subst, arith}
 use Rattle.core_state.specs.declared.registers.Record.{Record}
 use Rattle.nor_device.specs.declared.step.Step.{Step}
@@ -9,7 +9,6 @@ use Rattle.mmu_map.specs.Map.{Map}
 use Rattle.bus_hub.specs.declared.did.Did.{Did}
 use Rattle.bus_hub.specs.declared.did.Base.{Base}
 use Rattle.bus_hub.specs.Room.{Kept, empty_journal}
-use Rattle.bus_hub.specs.Log.{State}
 use Rattle.bus_hub.specs.Hub.{Hub, Stands, IsBaseOf, PowerIs, begun, state_of, opened}
 
 -- at the start the power is as the base says

@@ -1,8 +1,7 @@
 -- What a core knows by its own share: its part of the duty, and its step that runs.
-use Rattle.std.specs.Prelude.{◌≡◌, ◌≢◌, ◌==◌, ◌⊎◌, ℕ, zero, suc, ◌+◌, ◌<◌, ◌≤◌, Bool, true, false, cond, List, [], ◌∷◌, ◌++◌, refl, Option, Some, None}
-use Rattle.std.proofs.Common.{◌∙◌, sym, ap, subst, inl, inr, arith, eqb}
+use Rattle.std.specs.Prelude.{◌≡◌, ◌≢◌, ◌==◌, ◌⊎◌, ℕ, Bool, true, false, cond, List, [], ◌∷◌, ◌++◌, refl, Option, Some, None}
+use Rattle.std.proofs.Common.{◌∙◌, sym, ap, subst, inl, inr, eqb}
 use Rattle.std.proofs.lemmas.Bool.Decides.{eqb_tells}
-use Rattle.core_state.specs.Sharing.{in_order}
 use Rattle.nor_device.specs.declared.step.Step.{Step}
 use Rattle.nor_device.specs.declared.nor.StepEnd.{StepEnd}
 use Rattle.nor_device.specs.declared.nor.NorFault.{NorFault}
@@ -10,10 +9,8 @@ use Rattle.nor_device.specs.Torn.{Torn}
 use Rattle.bus_hub.specs.declared.did.Running.{Running}
 use Rattle.bus_hub.specs.declared.did.Did.{Did}
 use Rattle.bus_hub.specs.declared.did.Did.TheVariants.{Opened, Closed, Broken, Fetched, Noted, Denied, Mapping, Unmapping, Missed, Masked}
-use Rattle.bus_hub.specs.declared.did.Base.{Base}
-use Rattle.bus_hub.specs.Log.{Item, item, of_core, run_of, State, Runs, Rule, change, made_whole, reached}
-use Rattle.bus_hub.specs.Hub.{Hub, Stands, begun, state_of}
-use Rattle.bus_hub.specs.Shares.{Begun, begun_of, own_begun, steps_of, open_after, made_by, open_from, made_from, made, moved_by}
+use Rattle.bus_hub.specs.Log.{Item, of_core, run_of, State, Runs, Rule, change, made_whole, reached}
+use Rattle.bus_hub.specs.Shares.{Begun, begun_of, own_begun, steps_of, open_after, made_by, open_from, made_from, moved_by}
 use Rattle.bus_hub.proofs.Logs.{Keeps}
 
 -- steps made one after the other

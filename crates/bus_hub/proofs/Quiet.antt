@@ -1,6 +1,6 @@
 -- Calls that touch no device.
-use Rattle.std.specs.Prelude.{◌≡◌, ℕ, zero, suc, ◌+◌, ◌<◌, ◌≤◌, Bool, true, false, List, [], ◌∷◌, ◌++◌, refl, Option, Some, None, Result}
-use Rattle.std.proofs.Common.{◌∙◌, sym, ap, subst, arith}
+use Rattle.std.specs.Prelude.{◌≡◌, ℕ, zero, suc, ◌<◌, Bool, List, [], ◌∷◌, refl, Option, None, Result}
+use Rattle.std.proofs.Common.{◌∙◌, sym, ap, subst}
 use Rattle.core_state.specs.declared.registers.Record.{Record}
 use Rattle.core_state.specs.declared.registers.Regs.{Regs}
 use Rattle.core_state.specs.Sharing.{GoesOn}
@@ -17,8 +17,7 @@ use Rattle.mmu_map.specs.declared.runs.NoPages.{NoPages}
 use Rattle.mmu_map.specs.declared.runs.NotMapped.{NotMapped}
 use Rattle.mmu_map.specs.Map.{IsMapAnswer, after_map, IsUnmapAnswer, after_unmap}
 use Rattle.bus_hub.specs.declared.did.Base.{Base}
-use Rattle.bus_hub.specs.Hub.{Hub, Fits, Stands, record_of, with_record, noted}
-use Rattle.bus_hub.specs.Told.{set_to}
+use Rattle.bus_hub.specs.Hub.{Hub, Fits, Stands, with_record, noted}
 use Rattle.bus_hub.proofs.Adds.{adds, still}
 
 -- a note is no act of a step and no fetch

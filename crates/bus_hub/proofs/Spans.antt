@@ -1,7 +1,6 @@
 -- Where the bytes of a range lie.
-use Rattle.std.specs.Prelude.{◌≡◌, ◌≢◌, ℕ, ◌+◌, ◌-◌, ◌%◌, ◌<◌, ◌≤◌, min, List, length, take, drop, get_or, slice_index, refl, Option, Some, None, IfSome}
-use Rattle.std.proofs.Common.{◌∙◌, sym, ap, subst, inl, inr, arith, length-drop}
-use Rattle.std.proofs.Math.ListN.{length-take}
+use Rattle.std.specs.Prelude.{◌≡◌, ◌≢◌, ℕ, ◌+◌, ◌-◌, ◌%◌, ◌<◌, ◌≤◌, min, List, length, drop, slice_index, refl, Option, Some, None, IfSome}
+use Rattle.std.proofs.Common.{◌∙◌, sym, ap, subst, inl, inr, arith}
 use Rattle.std.proofs.Math.Seq.{get_or-take, get_or-drop}
 use Rattle.std.proofs.lemmas.Bool.{cases_lt}
 use Rattle.nor_device.specs.Nor.{part_of}

@@ -1,7 +1,6 @@
 -- Steps that are begun and polled.
-use Rattle.std.specs.Prelude.{◌≡◌, ◌↔◌, ℕ, zero, suc, ◌+◌, ◌-◌, ◌^◌, ◌<◌, ◌≤◌, min, Bool, true, false, IsTrue, List, [], ◌∷◌, ◌++◌, refl, Option, Some, None, Result, Ok, Err, OnOk, OnErr, IsErrOf, IfSome}
+use Rattle.std.specs.Prelude.{◌≡◌, ℕ, ◌<◌, ◌≤◌, Bool, true, false, List, [], ◌∷◌, refl, Option, Some, None, Result, Ok, Err, OnOk, OnErr, IfSome}
 use Rattle.std.proofs.Common.{◌∙◌, sym, ap, subst, arith}
-use Rattle.core_state.specs.declared.registers.Record.{Record}
 use Rattle.core_state.specs.declared.registers.Regs.{Regs}
 use Rattle.core_state.specs.Sharing.{GoesOn}
 use Rattle.nor_device.specs.declared.step.Step.{Step}
@@ -13,7 +12,7 @@ use Rattle.nor_device.specs.declared.nor.NorFault.{NorFault}
 use Rattle.nor_device.specs.declared.nor.NorFault.TheVariants.{Failed, Off}
 use Rattle.nor_device.specs.Flash.{applied}
 use Rattle.nor_device.specs.Torn.{Torn}
-use Rattle.nor_device.specs.Nor.{Rose, one_more, end_by, HasCause, IsMade, IsLeftTorn}
+use Rattle.nor_device.specs.Nor.{end_by, HasCause, IsMade, IsLeftTorn}
 use Rattle.bus_hub.specs.declared.did.Did.{Did}
 use Rattle.bus_hub.specs.declared.did.Did.TheVariants.{Opened, Closed, Broken, Denied}
 use Rattle.bus_hub.specs.declared.did.Running.{Running}

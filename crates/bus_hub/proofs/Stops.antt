@@ -1,10 +1,9 @@
 -- Power, size and number of steps by the log, and that nothing comes behind a stop.
-use Rattle.std.specs.Prelude.{◌≡◌, ℕ, ◌+◌, ◌<◌, Bool, List, [], ◌∷◌, ◌++◌, length, refl, Option, Some, None}
-use Rattle.std.proofs.Common.{◌∙◌, sym, ap, subst, arith}
+use Rattle.std.specs.Prelude.{◌≡◌, ℕ, Bool, List, [], ◌∷◌, ◌++◌, length, refl, Option, Some, None}
+use Rattle.std.proofs.Common.{◌∙◌, sym, ap, subst}
 use Rattle.nor_device.specs.declared.step.Step.{Step}
 use Rattle.nor_device.specs.declared.nor.StepEnd.{StepEnd}
 use Rattle.nor_device.specs.declared.nor.NorFault.{NorFault}
-use Rattle.nor_device.specs.Flash.{applied}
 use Rattle.nor_device.specs.Torn.{Torn}
 use Rattle.nor_device.proofs.FlashLaws.{length_applied}
 use Rattle.bus_hub.specs.declared.did.Running.{Running}
@@ -12,9 +11,9 @@ use Rattle.bus_hub.specs.declared.did.Did.{Did}
 use Rattle.bus_hub.specs.declared.did.Did.TheVariants.{Opened, Closed, Broken, Fetched, Noted, Denied, Mapping, Unmapping, Missed, Masked}
 use Rattle.bus_hub.specs.declared.did.Base.{Base}
 use Rattle.bus_hub.specs.Log.{Item, State, Runs, Rule, change, made_whole, reached}
-use Rattle.bus_hub.specs.Hub.{Hub, Stands, PowerIs, begun, state_of}
+use Rattle.bus_hub.specs.Hub.{Hub, Stands, PowerIs, begun}
 use Rattle.bus_hub.specs.Shares.{Begun, begun_of, open_after, open_from, all_of, off_after, off_after_all, count_after, count_after_all, IsStill, AreStill, StopsAt}
-use Rattle.bus_hub.proofs.Logs.{Keeps, kept, ruled-front, ruled-back}
+use Rattle.bus_hub.proofs.Logs.{Keeps, kept, ruled-back}
 
 module _ {K : Type 0} (after : K → ℕ → Step → K) where
   -- one item: the open step, the power, the number of steps

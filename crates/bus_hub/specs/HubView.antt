@@ -1,9 +1,8 @@
 -- How the fields of the bus show in a contract.
-use Rattle.std.specs.Prelude.{◌≡◌, ℕ, ◌+◌, ◌≤◌, ◌<◌, List, length, Bool, false, Option, Some, None}
+use Rattle.std.specs.Prelude.{◌≡◌, ℕ, ◌<◌, List, Bool, false, Option, Some, None}
 use Rattle.nor_device.specs.declared.step.Step.{Step}
 use Rattle.bus_hub.specs.declared.did.Running.{Running}
-use Rattle.bus_hub.specs.declared.bus.Bus.TheInside.{Inside}
-use Rattle.bus_hub.specs.Room.{Kept, HasRoom}
+use Rattle.bus_hub.specs.Room.{HasRoom}
 use Rattle.bus_hub.specs.Hub.{Hub, IsTold, step_of, owed}
 
 -- the step that runs is one that its core was allowed

@@ -1,6 +1,5 @@
 -- What the calls say of the bus, and which items they add.
-use Rattle.std.specs.Prelude.{◌≡◌, ℕ, ◌+◌, ◌-◌, ◌<◌, ◌≤◌, Bool, true, false, IsTrue, List, [], ◌∷◌, length, take, drop, Option, Some, None, IfSome, Result, Ok, Err, OnOk, OnErr, IfErr, IsErrOf}
-use Rattle.core_state.specs.declared.registers.Record.{Record}
+use Rattle.std.specs.Prelude.{◌≡◌, ℕ, ◌+◌, ◌-◌, ◌<◌, ◌≤◌, Bool, false, IsTrue, List, [], ◌∷◌, length, take, drop, Option, Some, None, IfSome, Result, Ok, Err, OnOk, OnErr, IfErr, IsErrOf}
 use Rattle.core_state.specs.declared.registers.Regs.{Regs}
 use Rattle.nor_device.specs.declared.step.Step.{Step}
 use Rattle.nor_device.specs.declared.nor.Ready.{Ready}
@@ -10,11 +9,11 @@ use Rattle.nor_device.specs.declared.nor.StepEnd.TheVariants as ends
 use Rattle.nor_device.specs.declared.nor.NorFault.{NorFault}
 use Rattle.nor_device.specs.declared.nor.NorFault.TheVariants as whys
 use Rattle.nor_device.specs.Nor.{Rose, one_more, end_by, part_of, HasCause, IsMade, IsLeftTorn}
-use Rattle.bus_hub.specs.declared.entry.Act.TheVariants.{Close, Fetch, Set}
+use Rattle.bus_hub.specs.declared.entry.Act.TheVariants.{Close, Fetch}
 use Rattle.bus_hub.specs.declared.did.Running.{Running}
 use Rattle.bus_hub.specs.declared.did.Did.{Did}
 use Rattle.bus_hub.specs.declared.did.Base.{Base}
-use Rattle.bus_hub.specs.declared.did.Did.TheVariants.{Opened, Closed, Broken, Fetched, Noted, Denied, Missed, Masked}
+use Rattle.bus_hub.specs.declared.did.Did.TheVariants.{Opened, Closed, Broken, Fetched, Denied, Missed, Masked}
 use Rattle.bus_hub.specs.Room.{Kept, with_entry, with_bytes}
 use Rattle.mmu_map.specs.Map.{Map, translated}
 use Rattle.bus_hub.specs.declared.reads.FetchNo.{FetchNo}
@@ -22,7 +21,7 @@ use Rattle.bus_hub.specs.declared.reads.FetchNo.TheVariants as refusals
 use Rattle.bus_hub.specs.declared.span.Span.{Span}
 use Rattle.bus_hub.specs.Fetch.{IsReachable, IsUnmapped, IsRead, IsServed}
 use Rattle.bus_hub.specs.Log.{entry_of, opening, run_of}
-use Rattle.bus_hub.specs.Hub.{Hub, record_of, with_record, noted, step_of}
+use Rattle.bus_hub.specs.Hub.{Hub, record_of, with_record, noted}
 
 -- what a read adds: a mark where it was refused
 abbrev pub asked : Result (Unit {0}) NorFault → List Did
