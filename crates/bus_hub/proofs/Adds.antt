@@ -18,7 +18,8 @@ module _ {D S K P : Type 0}
     (part : K → ℕ → P) (grants : P → Step → Type 0) (after : K → ℕ → Step → K)
     (good : List ℕ → K → List ℕ → Type 0) where
   abbrev pub Stand : Hub D K → Base S K → List Did → List Did → Type 0
-  Stand = Stands bytes off steps faults setting may_end may_tear may_refuse must_refuse part grants after good
+  Stand = Stands bytes off steps faults setting may_end may_tear may_refuse must_refuse
+      part grants after good
 
   -- what one item more owes: its rule, and that it leads to the bus after the call
   pub record Moves (old new : Hub D K) (c : ℕ) (did : Did) (flash : List ℕ) (noted : ℕ)
@@ -60,7 +61,8 @@ module _ {D S K P : Type 0}
       (s : Stand old b left right) where
     -- the power as the old bus has it, by its own setting
     power_here : PowerIs (off old.dev) s.is_off (must_refuse (setting old.dev) (steps old.dev))
-    power_here = subst (λ (set : S). PowerIs (off old.dev) s.is_off (must_refuse set (steps old.dev)))
+    power_here = subst (λ (set : S). PowerIs (off old.dev) s.is_off (must_refuse set (steps
+        old.dev)))
         (sym s.setting_is) s.power
 
     abbrev now : State K

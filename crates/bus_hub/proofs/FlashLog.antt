@@ -39,27 +39,59 @@ module _ {S K P : Type 0}
 
   leaves_item : (set : S) (s : State K) (c : ℕ) (did : Did) → AreUnbroken (did ∷ [])
       → Obeys set s c did → Leaves s (change after s c did) did
-  leaves_item set s c (Opened k regs step) whole rule = record { flash_is = refl; open_is = refl; map_is = refl }
+  leaves_item set s c (Opened k regs step) whole rule = record {
+    flash_is = refl;
+    open_is = refl;
+    map_is = refl;
+  }
   leaves_item set s c (Closed k regs) whole rule = record {
     flash_is = whole_flash s c (λ run. run.k ≡ k) s.running rule.0;
     open_is = refl;
     map_is = whole_map s c s.running;
   }
   leaves_item set s c (Broken k regs why left) whole rule = absurd whole
-  leaves_item set s c (Fetched k regs at bytes) whole rule = record { flash_is = refl; open_is = refl; map_is = refl }
-  leaves_item set s c (Noted k regs act) whole rule = record { flash_is = refl; open_is = refl; map_is = refl }
-  leaves_item set s c (Denied why) whole rule = record { flash_is = refl; open_is = refl; map_is = refl }
+  leaves_item set s c (Fetched k regs at bytes) whole rule = record {
+    flash_is = refl;
+    open_is =
+        refl;
+    map_is = refl;
+  }
+  leaves_item set s c (Noted k regs act) whole rule = record {
+    flash_is = refl;
+    open_is = refl;
+    map_is = refl;
+  }
+  leaves_item set s c (Denied why) whole rule = record {
+    flash_is = refl;
+    open_is = refl;
+    map_is
+        = refl;
+  }
   leaves_item set s c (Mapping flash_page n space answer) whole rule = record {
     flash_is = refl;
     open_is = refl;
     map_is = refl;
   }
-  leaves_item set s c (Unmapping at answer) whole rule = record { flash_is = refl; open_is = refl; map_is = refl }
-  leaves_item set s c (Missed at len) whole rule = record { flash_is = refl; open_is = refl; map_is = refl }
-  leaves_item set s c (Masked at len) whole rule = record { flash_is = refl; open_is = refl; map_is = refl }
+  leaves_item set s c (Unmapping at answer) whole rule = record {
+    flash_is = refl;
+    open_is =
+        refl;
+    map_is = refl;
+  }
+  leaves_item set s c (Missed at len) whole rule = record {
+    flash_is = refl;
+    open_is = refl;
+    map_is = refl;
+  }
+  leaves_item set s c (Masked at len) whole rule = record {
+    flash_is = refl;
+    open_is = refl;
+    map_is = refl;
+  }
 
   -- of a log without a break, its first item and the others
-  unbroken_first : (did : Did) (share : List Did) → AreUnbroken (did ∷ share) → AreUnbroken (did ∷ [])
+  unbroken_first : (did : Did) (share : List Did) → AreUnbroken (did ∷ share)
+      → AreUnbroken (did ∷ [])
   unbroken_first (Opened k regs step) share whole = tt
   unbroken_first (Closed k regs) share whole = tt
   unbroken_first (Broken k regs why left) share whole = whole
@@ -111,7 +143,8 @@ module _ {S K P : Type 0}
   shows_log set s log all idle before later c k regs at bytes split whole =
       let parts : Keeps may_end may_tear may_refuse must_refuse part grants after set s
       (before ++ item c (Fetched k regs at bytes) ∷ later) =
-      subst (λ (l : List Item). Keeps may_end may_tear may_refuse must_refuse part grants after set s l)
+      subst (λ (l : List Item). Keeps may_end may_tear may_refuse must_refuse part grants after
+      set s l)
       split all in
       let front = ruled-front may_end may_tear may_refuse must_refuse part grants after set s before
       (item c (Fetched k regs at bytes) ∷ later) parts in

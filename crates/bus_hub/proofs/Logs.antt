@@ -13,7 +13,8 @@ cond_append : (b : Bool) (x : Did) (xs ys : List Did)
 cond_append true x xs ys = refl
 cond_append false x xs ys = refl
 
-pub of_core-append : (c : ℕ) (xs ys : List Item) → of_core c (xs ++ ys) ≡ of_core c xs ++ of_core c ys
+pub of_core-append : (c : ℕ) (xs ys : List Item) → of_core c (xs ++ ys) ≡ of_core c xs
+    ++ of_core c ys
 of_core-append c [] ys = refl
 of_core-append c (x ∷ xs) ys =
     ap (λ (later : List Did). cond (x.core == c) (x.did ∷ later) later) (of_core-append c xs ys)

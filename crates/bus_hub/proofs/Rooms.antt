@@ -54,7 +54,8 @@ module _ {S K P : Type 0}
   owed_none : (o : Option Running) → o ≡ None → owed o ≡ 0
   owed_none o idle = ap owed idle
 
-  same_entries : (s : State K) (c : ℕ) (o : Option Running) → (made_whole after s c o).entries ≡ s.entries
+  same_entries : (s : State K) (c : ℕ) (o : Option Running) → (made_whole after s c o).entries
+      ≡ s.entries
   same_entries s c None = refl
   same_entries s c (Some run) = refl
 

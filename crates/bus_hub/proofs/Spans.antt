@@ -46,7 +46,8 @@ module _ (m : Map) (size at len from front : ℕ) (small : len ≤ 256) (some : 
     then_inside = λ less. absurd (omega arith);
   }
 
-  module _ (then : ℕ) (differs : front ≢ len) (then_is : translated m (at + front) ≡ Some then) where
+  module _ (then : ℕ) (differs : front ≢ len) (then_is : translated m (at + front)
+      ≡ Some then) where
     -- the second page begins where the first one ends
     starts : (at + front) % 65536 ≡ 0
     starts = omega arith
@@ -62,7 +63,8 @@ module _ (m : Map) (size at len from front : ℕ) (small : len ≤ 256) (some : 
     then_beyond past = record {
       place = front + (size - then);
       within = omega arith;
-      beyond = not_in_flash (translated m (at + (front + (size - then)))) (then + (size - then)) size
+      beyond = not_in_flash (translated m (at + (front + (size - then)))) (then + (size - then))
+          size
           (in_then (size - then) (omega arith)) (omega arith);
     }
 

@@ -22,7 +22,8 @@ module _ {K : Type 0} (after : K → ℕ → Step → K) where
     pub off_is : t.is_off ≡ off_after s.is_off did
     pub count_is : t.steps ≡ count_after s.steps did
 
-  whole_steps : (s : State K) (c : ℕ) (o : Option Running) → (made_whole after s c o).steps ≡ s.steps
+  whole_steps : (s : State K) (c : ℕ) (o : Option Running) → (made_whole after s c o).steps
+      ≡ s.steps
   whole_steps s c None = refl
   whole_steps s c (Some run) = refl
 
@@ -118,8 +119,10 @@ module _ {S K P : Type 0}
       → Keeps may_end may_tear may_refuse must_refuse part grants after set s log
       → begun_of s.running ≡ None → StopsAt (must_refuse set) s.steps log
   stops_log set s log all idle before later split closed stops =
-      let parts : Keeps may_end may_tear may_refuse must_refuse part grants after set s (before ++ later) =
-      subst (λ (l : List Item). Keeps may_end may_tear may_refuse must_refuse part grants after set s l)
+      let parts : Keeps may_end may_tear may_refuse must_refuse part grants after set s (before
+      ++ later) =
+      subst (λ (l : List Item). Keeps may_end may_tear may_refuse must_refuse part grants after
+      set s l)
       split all in
       let back = ruled-back may_end may_tear may_refuse must_refuse part grants after set s before
       later parts in
@@ -170,7 +173,8 @@ module _ {S K P : Type 0}
       (sized : (device : D) (flash : List ℕ) → bytes device ≡ Some flash
       → length flash ≡ size device) where
     abbrev StandsBy : Hub D K → Base S K → List Did → List Did → Type 0
-    StandsBy = Stands bytes off steps faults setting may_end may_tear may_refuse must_refuse part grants after good
+    StandsBy = Stands bytes off steps faults setting may_end may_tear may_refuse must_refuse
+        part grants after good
 
     pub size_now : (h : Hub D K) (b : Base S K) (left right : List Did) → StandsBy h b left right
         → length b.flash ≡ size h.dev

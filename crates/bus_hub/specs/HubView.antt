@@ -16,8 +16,8 @@ abbrev pub IsPowered : Bool → Option Running → Type 0
 IsPowered off None = Unit {0}
 IsPowered off (Some run) = off ≡ false
 
--- what holds of every bus: the device makes the step that is noted, and tells its bytes; the step was
--- allowed; and the journal has room for its end
+-- what holds of every bus: the device makes the step that is noted, and tells its bytes; the step
+-- was allowed; and the journal has room for its end
 pub record IsHub {D K P : Type 0} (bytes : D → Option (List ℕ)) (running : D → Option Step)
     (off : D → Bool) (part : K → ℕ → P) (grants : P → Step → Type 0) (h : Hub D K) : Type 0 where
   pub runs : running h.dev ≡ step_of h.running

@@ -113,8 +113,8 @@ abbrev pub map_after_all : Map → List Did → Map
 map_after_all m [] = m
 map_after_all m (did ∷ share) = map_after_all (map_after_item m did) share
 
--- up to the first step that was broken off, each fetch of the log shows the bytes of the flash after the steps that were made
--- before it, behind the map as it was then
+-- up to the first step that was broken off, each fetch of the log shows the bytes of the flash
+-- after the steps that were made before it, behind the map as it was then
 abbrev pub ShowsFlash : Map → List ℕ → List Item → Type 0
 ShowsFlash m flash log =
     (before later : List Item) (c k : ℕ) (regs : Regs) (at : ℕ) (bytes : List ℕ)
@@ -175,8 +175,8 @@ abbrev pub AreStill : List Did → Type 0
 AreStill [] = Unit {0}
 AreStill (did ∷ share) = IsStill did × AreStill share
 
--- after the step of this number every read and start is refused: where no step is open behind a first part of the log,
--- nothing is begun, ended or fetched in the rest
+-- after the step of this number every read and start is refused: where no step is open behind a
+-- first part of the log, nothing is begun, ended or fetched in the rest
 abbrev pub StopsAt : (ℕ → Type 0) → ℕ → List Item → Type 0
 StopsAt must_refuse first log =
     (before later : List Item) → log ≡ before ++ later

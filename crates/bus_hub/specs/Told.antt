@@ -143,7 +143,8 @@ module _ {D K : Type 0} where
             (entry_of c k regs (Fetch at (length h.journal.bytes) (length bytes)));
       }
 
--- where the bytes of a range lie: so many from one flash address on, and the others from another one on
+-- where the bytes of a range lie: so many from one flash address on, and the others from another
+-- one on
 pub record IsSplit (m : Map) (size at len : ℕ) (span : Span) : Type 0 where
   pub some : 1 ≤ span.front
   pub most : span.front ≤ len
@@ -164,13 +165,15 @@ module _ {D K S : Type 0}
     (bytes : D → Option (List ℕ)) (size : D → ℕ) (off : D → Bool) (steps faults : D → ℕ)
     (setting : D → S)
     (may_refuse : S → ℕ → NorFault → Type 0) (must_refuse : S → ℕ → Type 0) where
-  -- a fetch that was answered: each address is there and served, and the bytes are those of the flash behind the map
+  -- a fetch that was answered: each address is there and served, and the bytes are those of the
+  -- flash behind the map
   pub record IsFetched (old new : Hub D K) (c k : ℕ) (regs : Regs) (at len : ℕ) : Type 0 where
     pub data_bytes : List ℕ
     pub many : length data_bytes ≡ len
     pub reachable : IsReachable old.map (size old.dev) at len
     pub served : IsServed regs.mask at
-    pub device : Asks bytes size off steps faults setting may_refuse must_refuse old.dev new.dev (Ok tt)
+    pub device : Asks bytes size off steps faults setting may_refuse must_refuse
+        old.dev new.dev (Ok tt)
     pub read : IfSome (bytes old.dev) (λ flash. IsRead old.map flash at data_bytes)
     pub is : new ≡ fetched (with_device old new.dev) c k regs at data_bytes
 
@@ -179,7 +182,8 @@ module _ {D K S : Type 0}
       : Type 0 where
     pub reachable : IsReachable old.map (size old.dev) at len
     pub served : IsServed regs.mask at
-    pub device : Asks bytes size off steps faults setting may_refuse must_refuse old.dev new.dev (Err why)
+    pub device : Asks bytes size off steps faults setting may_refuse must_refuse
+        old.dev new.dev (Err why)
     pub is : new ≡ with_device old new.dev
 
   -- what a fetch says, by its answer
@@ -192,7 +196,8 @@ module _ {D K S : Type 0}
   Fetches old new c k regs at len (Err refusals.Off) = IsDenied old new regs at len whys.Off
   Fetches old new c k regs at len (Err refusals.Failed) = IsDenied old new regs at len whys.Failed
 
--- why a fetch was refused by the device: a failure only where the count of faults rose, and off only where the power is off
+-- why a fetch was refused by the device: a failure only where the count of faults rose, and off
+-- only where the power is off
 pub record HasFetchCause (before now : ℕ) (off : Bool) (r : Result (Unit {0}) FetchNo)
     : Type 0 where
   pub later : before ≤ now
@@ -201,7 +206,8 @@ pub record HasFetchCause (before now : ℕ) (off : Bool) (r : Result (Unit {0}) 
   pub off_is : IsErrOf r refusals.Off → IsTrue off
   pub on_is : OnOk r (off ≡ false)
 
--- every flash that a loss of power may leave now is good by the duty, for each base and shares that the bus stands for
+-- every flash that a loss of power may leave now is good by the duty, for each base and shares that
+-- the bus stands for
 abbrev pub IsSafe : {D S K : Type 0} → (Hub D K → Base S K → List Did → List Did → Type 0)
     → (D → List ℕ → Type 0) → (List ℕ → K → List ℕ → Type 0) → Hub D K → Type 0
 IsSafe {D} {S} {K} stands may_leave good h =
