@@ -16,7 +16,8 @@ use crash_images::Crash;
 use mmu_map::Pages;
 use std::marker::Model;
 
-/// The device with the pages that the cache shows of it, the journal, the duty, and both cores' registers.
+/// The device with the pages that the cache shows of it, the journal, the duty, and both cores'
+/// registers.
 #[derive(Drop)]
 pub struct Bus<D: Crash, K: Duty> {
     pub(crate) dev: D,
@@ -82,15 +83,16 @@ impl<D: Crash, K: Duty> Records for Bus<D, K> {
 }
 
 impl<D: Crash, K: Duty> Bus<D, K> {
-    /// A bus over an idle device whose flash is good, with an empty journal. Both cores have their registers at
-    /// reset saved. It stands for its base and no shares.
+    /// A bus over an idle device whose flash is good, with an empty journal. Both cores have their
+    /// registers at reset saved. It stands for its base and no shares.
     pub fn new(dev: D, pages: Pages, journal: Journal, duty: K) -> Bus<D, K>
         requires idle { D.running dev ≡ None }
         requires told { IsTold (D.bytes dev) }
         requires good { (flash : List ℕ) → D.bytes dev ≡ Some flash → K.good flash duty flash }
         requires empty { journal ≡ empty_journal journal.left_room journal.right_room }
         ensures exact { result ≡ opened dev pages journal duty }
-        ensures stands { (b : Base D.Setting K) → IsBaseOf D.bytes D.off D.steps D.faults D.setting b dev pages journal duty
+        ensures stands { (b : Base D.Setting K)
+            → IsBaseOf D.bytes D.off D.steps D.faults D.setting b dev pages journal duty
             → ⟦<Bus<D, K> as Records>⟧.stands result b [] [] }
         ensures leaves { IsSafe ⟦<Bus<D, K> as Records>⟧.stands D.may_leave K.good result }
     {

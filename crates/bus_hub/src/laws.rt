@@ -23,8 +23,8 @@ impl<D: Crash, K: Duty> Bus<D, K> {
         let _ = &self.dev;
     }
 
-    /// A core knows by its own share what it may do, which step of its own runs, and how much room the journal
-    /// has for it, whatever the other core did.
+    /// A core knows by its own share what it may do, which step of its own runs, and how much room
+    /// the journal has for it, whatever the other core did.
     pub fn known(&self)
         ensures part { (b : Base D.Setting K) (c : ℕ) (mine theirs : List Did) → c < 2
             → in_order (⟦<Bus<D, K> as Records>⟧.stands self.now b) c mine theirs
@@ -48,8 +48,8 @@ impl<D: Crash, K: Duty> Bus<D, K> {
             → ShowsFlash b.map b.flash s.stood.log }
     {}
 
-    /// Size, number of steps and power of the device by the log. Where every read and start is refused after
-    /// the last step, the log has no more steps and fetches.
+    /// Size, number of steps and power of the device by the log. Where every read and start is
+    /// refused after the last step, the log has no more steps and fetches.
     pub fn lasting(&self)
         ensures size { (b : Base D.Setting K) (left right : List Did)
             → ⟦<Bus<D, K> as Records>⟧.stands self.now b left right
