@@ -1,8 +1,8 @@
 -- A flash that is made, as a bootloader reads it.
-use Rattle.std.proofs.Common.{◌≡◌, ℕ, ◌+◌, ◌*◌, ◌-◌, ◌<◌, ◌≤◌, Bool, true, false, List, [], length, take, drop, replicate, Option, Some, None, Result, Ok, Err, refl, sym, ap, subst, ◌∙◌, ◌⊎◌, inl, inr, arith}
+use Rattle.std.proofs.Common.{◌≡◌, ℕ, ◌+◌, ◌*◌, ◌-◌, ◌<◌, ◌≤◌, Bool, true, false, List, length, take, drop, replicate, Option, Some, None, Result, Ok, Err, refl, sym, ap, subst, ◌∙◌, ◌⊎◌, inl, inr, arith}
 use Rattle.std.specs.Prelude.{All, if◌then◌else◌, ◌==◌, ◌↔◌}
 use Rattle.std.proofs.lemmas.Bool.Decides.{nat_tests}
-use Rattle.std.proofs.lemmas.List.{drop-replicate, length-drop, length-replicate, length-take, length-take-le, take-replicate, take-take}
+use Rattle.std.proofs.lemmas.List.{drop-replicate, length-drop, length-replicate, length-take-le, take-replicate, take-take}
 use Rattle.byteorder.specs.Endian.{little_number}
 use Rattle.nor_device.specs.FlashSize.{is_flash_size}
 use Rattle.otadata.specs.declared.entry.Entry.{Entry}
@@ -13,7 +13,7 @@ use Rattle.partition_table.specs.declared.app.App.TheVariants.{Factory}
 use Rattle.partition_table.specs.declared.bad.TableBad.{TableBad}
 use Rattle.partition_table.specs.declared.row.Row.{Row}
 use Rattle.partition_table.specs.Layout.{Apart, IsPlaced, Places, layout_by, layout_in, layout_of}
-use Rattle.partition_table.specs.Rules.{Stands, is_within}
+use Rattle.partition_table.specs.Rules.{is_within}
 use Rattle.partition_table.specs.Table.{TableOf, table_of, table_text}
 use Rattle.partition_table.proofs.RowLemmas.{bytes-all}
 use Rattle.partition_table.proofs.TableLemmas.{table_of-means, table_of-text, table_text-means}
@@ -23,7 +23,7 @@ use Rattle.image_layout.specs.Whole.{Whole}
 use Rattle.image_verify.specs.declared.bad.BadImage.{BadImage}
 use Rattle.image_verify.specs.Bad.{bad}
 use Rattle.image_verify.specs.Held.{held}
-use Rattle.image_verify.proofs.HeldFacts.{held_from, whole_wider}
+use Rattle.image_verify.proofs.HeldFacts.{held_from}
 use Rattle.flash_text.specs.declared.refusal.Refusal.{Refusal}
 use Rattle.flash_text.specs.declared.refusal.Refusal.TheVariants.{FlashSize, TableLength}
 use Rattle.flash_cli.specs.TableShow.{file_rows, rows_or_refusal}

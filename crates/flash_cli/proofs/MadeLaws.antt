@@ -1,9 +1,8 @@
 -- What the commands put, other commands accept.
 use Rattle.std.proofs.Common.{◌≡◌, ℕ, suc, List, [], ◌∷◌, ◌++◌, length, cond, Option, Some, None, Result, Ok, Err, refl, sym, ap, ◌∙◌}
 use Rattle.std.specs.Prelude.{◌↔◌}
-use Rattle.std.specs.Ordering.{nat_cmp, eq_by_cmp}
 use Rattle.std.specs.Cmp.{eq_by_cmp_equiv}
-use Rattle.std.specs.Cmp.Lexicographic.{slice_cmp, nat_list_cmp_total}
+use Rattle.std.specs.Cmp.Lexicographic.{nat_list_cmp_total}
 use Rattle.std.specs.FinMap.{get, insert, get-insert}
 use Rattle.pipe_ends.specs.Store.{Files}
 use Rattle.image_layout.specs.Whole.{Whole}
@@ -20,7 +19,6 @@ use Rattle.flash_cli.specs.Command.{ImageMake, ImageCheck}
 use Rattle.flash_cli.specs.Answer.{Answer, files_after}
 use Rattle.flash_cli.specs.Reading.{Reading, Absence, asks_all, by_answer, read_in}
 use Rattle.flash_cli.specs.ImageMake.{answer_of_image, plan_reading}
-use Rattle.flash_cli.specs.ImageCheck.{answer_of_check, image_check_answer}
 use Rattle.flash_cli.specs.Report.{outcome_in, outcome_of, reading_of}
 use Rattle.flash_cli.specs.Laws.{MadeIsWhole}
 

@@ -285,3 +285,37 @@ fn has_option(option: &str, words: &[String]) -> bool
         [word, _, more @ ..] => word.as_str() == option || has_option(option, more),
     }
 }
+
+#[cfg(test)]
+mod tests {
+    use super::{Kind, Row};
+    use std::test::Fail;
+
+    #[test]
+    fn options_stand_behind_the_names_each_at_most_once(rt: HostRuntime) -> Result<(), Fail> {
+        let row = Row {
+            options: &["--cut", "--tear"],
+            ..Row::plain(Kind::Choose, "choose", 1)
+        };
+        for (words, wanted) in [
+            ("F", true),
+            ("F --cut 1", true),
+            ("F --tear 0 --cut 1", true),
+            ("F --cut --tear", true),
+            ("", false),
+            ("F F", false),
+            ("--cut 1 F", false),
+            ("F --cut", false),
+            ("F --cut 1 F", false),
+            ("F --fail 1", false),
+            ("F --cut 1 --cut 2", false),
+        ] {
+            let mut all = Vec::new(rt.alloc());
+            for word in words.split(' ') {
+                all.push(String::from_str(rt.alloc(), word)?)?;
+            }
+            assert_eq!(rt; row.fits(&all), wanted, "{words}");
+        }
+        Ok(())
+    }
+}

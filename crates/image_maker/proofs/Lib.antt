@@ -4,3 +4,4 @@ mod PlacingLemmas
 mod WholeLemmas
 mod ReadLemmas
 mod PlanLemmas
+mod MemoryLemmas

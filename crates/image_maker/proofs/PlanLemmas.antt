@@ -6,12 +6,11 @@ use Rattle.pipe_ends.specs.Number.{number_of_text, number_up_to, within}
 use Rattle.pipe_ends.specs.Words.{begins, is_skipped, lines_of, word_in, words_of}
 use Rattle.image_maker.specs.declared.refusal.MakeNo.{MakeNo}
 use Rattle.image_maker.specs.declared.refusal.PlanNo.{PlanNo}
-use Rattle.image_maker.specs.declared.refusal.PlanNo.TheVariants.{Bad}
 use Rattle.image_maker.specs.declared.refusal.PlanWhy.{PlanWhy}
 use Rattle.image_maker.specs.declared.refusal.PlanWhy.TheVariants.{Word, Count, Number, TooMany, Name}
 use Rattle.image_maker.specs.Plan.{Planned, PlannedPart}
 use Rattle.image_maker.specs.PlanText.{Drafted, after_line, after_lines, after_setting, and_then, changed, entry_of, finished, flash_of, hash_of, is_name, need, nothing, part_in, plan_by, plan_of_text, plan_with}
-use Rattle.image_maker.specs.Placing.{Part, joined}
+use Rattle.image_maker.specs.Placing.{joined}
 use Rattle.image_maker.specs.Refused.{make_fault}
 use Rattle.image_maker.specs.Image.{IsMade, bytes_of, image_of, unless}
 use Rattle.image_maker.proofs.WholeLemmas.{AreSmall, made_is}

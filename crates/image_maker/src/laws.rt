@@ -1,6 +1,8 @@
 //! What plans make, over all plans.
 
-ghost use Rattle.std.specs.Prelude.{◌≡◌, ℕ, List, Ok};
+ghost use Rattle.std.specs.Prelude.{◌≡◌, ◌≢◌, ℕ, List, Ok, Err};
+ghost use Rattle.image_maker.specs.declared.refusal.MakeNo.{MakeNo};
+ghost use Rattle.image_maker.specs.declared.refusal.PlanNo.{PlanNo};
 ghost use Rattle.image_maker.specs.Image.{IsMade, image_of};
 ghost use Rattle.image_maker.specs.Plan.{Planned};
 ghost use Rattle.image_maker.specs.PlanText.{plan_of_text};
@@ -9,4 +11,10 @@ ghost use Rattle.image_maker.specs.PlanText.{plan_of_text};
 pub fn made_images_are_whole()
     ensures whole { (text : List ℕ) (plan : Planned) (files : List (List ℕ)) (image : List ℕ)
         → plan_of_text text ≡ Ok plan → image_of plan files ≡ Ok image → IsMade plan files image }
+{}
+
+/// No text and no plan is refused for want of memory, which is no matter of what they mean.
+pub fn memory_is_no_refusal()
+    ensures plan { (text : List ℕ) → plan_of_text text ≢ Err PlanNo.Memory }
+    ensures image { (plan : Planned) (files : List (List ℕ)) → image_of plan files ≢ Err MakeNo.Memory }
 {}
