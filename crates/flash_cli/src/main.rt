@@ -3,6 +3,8 @@
 
 mod answer;
 mod boot;
+#[cfg(test)]
+mod boot_tests;
 mod choice;
 mod choose;
 mod command;
