@@ -14,9 +14,9 @@ use Rattle.rollback.specs.Boots.{boots, boots_in, BootsByVerdict, IsChance}
 use Rattle.rollback.proofs.ChanceLemmas.{verdict-or_chance}
 use Rattle.rollback.proofs.PairLemmas.{still_boots}
 use Rattle.image_verify.specs.Held.{held}
-use Rattle.boot_run.specs.Rewriting.{rewrite, rewrites}
+use Rattle.boot_run.specs.Rewriting.{AreShort, rewrite, rewrites}
 use Rattle.boot_run.specs.Crashed.{IsRestated, LeavesVerdict, LeavesVerdicts, IsLeftByVerdicts, StillBoots}
-use Rattle.boot_run.proofs.FrameLemmas.{AreShort, left_images, left_other}
+use Rattle.boot_run.proofs.FrameLemmas.{left_images, left_other}
 use Rattle.boot_run.proofs.WritesLemmas.{AreRewrites}
 
 -- the label of an entry of a flash is no longer than an entry's
@@ -69,7 +69,7 @@ boot_restated layout size flash (w ∷ v ∷ []) placed are =
     let other = left_other layout flash (after_steps flash steps) w placed.aligned are.0.two label (left_end flash steps) in
     let same : entries_in layout (after_steps flash steps) v.sector ≡ entries_in layout flash v.sector =
     subst (λ y. entries_in layout (after_steps flash steps) y ≡ entries_in layout flash y) (sym are.2) other in
-    (are.0, (record { two = are.1.two; state = are.1.state;
+    (are.0, (record { two = are.1.two; state = are.1.state; fits = are.1.fits;
     is = are.1.is ∙ ap (restated are.1.state v.sector) (sym same) }, tt))
 boot_restated layout size flash (w ∷ v ∷ u ∷ ws) placed are = absurd are
 

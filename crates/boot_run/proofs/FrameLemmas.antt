@@ -14,10 +14,13 @@ use Rattle.partition_table.specs.Layout.{Places, row_for, Apart, IsPlaced, layou
 use Rattle.partition_table.specs.Table.{table_of}
 use Rattle.otadata.specs.declared.entry.Entry.{Entry}
 use Rattle.otadata.specs.Entry.{entry_of, entry_bytes}
+use Rattle.otadata.proofs.EntryLemmas.{length-entry_bytes}
 use Rattle.boot_select.specs.Boots.{entries_in, image_by, images_in}
 use Rattle.rollback.specs.declared.rewrite.Rewrite.{Rewrite}
+use Rattle.rollback.specs.Boots.{boots, boots_in}
 use Rattle.rollback.specs.Pair.{other_of}
-use Rattle.boot_run.specs.Rewriting.{rewrite, rewrites}
+use Rattle.rollback.proofs.EntriesLemmas.{boots_same}
+use Rattle.boot_run.specs.Rewriting.{AreShort, rewrite, rewrites}
 
 -- ---- what depends on which addresses
 
@@ -49,23 +52,12 @@ same_layout Stays old new covers agrees =
 
 -- ---- a rewrite keeps to its sector
 
--- as many bytes as the label has, and twelve more
-pub length-entry_bytes : (e : Entry) → length (entry_bytes e) ≡ 12 + length e.label
-unfolding entry_bytes
-length-entry_bytes e =
-    simp length-append (omega arith)
-
 -- the steps of a rewrite change its sector alone
 pub rewrite_within : (otadata : ℕ) (write : Rewrite) → otadata % 4096 ≡ 0 → length write.entry.label ≤ 20
     → StepsWithin (otadata + 4096 * write.sector) (otadata + 4096 * write.sector + 4096) (rewrite otadata write)
 rewrite_within otadata write aligned short =
     let long = length-entry_bytes write.entry in
     (record { from = omega arith; to = omega arith }, (record { from = omega arith; to = omega arith }, tt))
-
--- each of the rewrites is of one of the two sectors, and its label is no longer than an entry's
-abbrev pub AreShort : List Rewrite → Type 0
-AreShort [] = Unit {0}
-AreShort (write ∷ writes) = ((write.sector < 2) × (length write.entry.label ≤ 20)) × AreShort writes
 
 -- steps in a range lie in a wider one
 pub steps_wider : (start end low high : ℕ) (steps : List Step) → low ≤ start → end ≤ high
@@ -141,3 +133,14 @@ left_other layout flash left write aligned two short after =
         → IsBeside (layout.otadata + 4096 * y) (layout.otadata + 4096 * y + 4096) i
     beside zero two i from to = inr (omega arith)
     beside (suc n) two i from to = inl (let same : n ≡ 0 = omega arith in omega arith)
+
+-- flashes that agree at the OTA data and at the partitions boot the same
+pub boots_agree : (held : List ℕ → Option (List ℕ)) (Stays : ℕ → Type 0) (layout : Places) (old new : List ℕ)
+    → ((sector : ℕ) → sector < 2 → Covers Stays (layout.otadata + 4096 * sector) 32)
+    → ((app : App) (row : Row) → row_for layout app ≡ Some row → Covers Stays row.offset row.size)
+    → Agrees Stays old new → boots_in held layout new ≡ boots_in held layout old
+boots_agree held Stays layout old new entries apps agrees =
+    ap (λ h. boots layout h (entries_in layout new)) (same_images held Stays layout old new apps agrees)
+    ∙ boots_same layout (images_in held layout old) (entries_in layout old) (entries_in layout new)
+    (same_entry Stays layout old new 0 (entries 0 (omega arith)) agrees)
+    (same_entry Stays layout old new 1 (entries 1 (omega arith)) agrees)

@@ -8,3 +8,6 @@ pub mod CrashLemmas
 pub mod StartedLemmas
 pub mod VerdictLemmas
 pub mod WholeLemmas
+pub mod AimLemmas
+pub mod StoredLemmas
+pub mod ConfirmedLemmas

@@ -284,3 +284,11 @@ module _ {S : Type 0} (may_end : S → ℕ → StepEnd → Type 0)
   made_by_left set steps count now old new (Ok x) made = made_left set steps count now old new made
   made_by_left set steps count now old new (Err why) missed =
       missed_left set steps count now old new why missed
+
+  -- where there is an answer, all of the steps were made
+  pub made_by_ok : {T : Type 0} (set : S) (steps : List Step) (count now : ℕ)
+      (old new : Option (List ℕ)) (r : Result T NorFault)
+      → AreMadeBy may_end may_tear may_refuse must_refuse set steps count now old new r
+      → OnOk r (Made set steps count now old new)
+  made_by_ok set steps count now old new (Ok x) made = made
+  made_by_ok set steps count now old new (Err why) missed = tt

@@ -22,12 +22,12 @@ use Rattle.rollback.specs.Boot.{boot_writes}
 use Rattle.rollback.specs.Boots.{boots}
 use Rattle.rollback.proofs.EntriesLemmas.{boots_same, writes_same}
 use Rattle.boot_run.specs.declared.booted.Booted.{Booted}
-use Rattle.boot_run.specs.Rewriting.{rewrite, rewrites}
+use Rattle.boot_run.specs.Rewriting.{AreShort, rewrite, rewrites}
 use Rattle.boot_run.specs.Read.{OfEntries}
 use Rattle.boot_run.specs.Verified.{IsFirst}
 use Rattle.boot_run.specs.Crashed.{IsLeftByVerdicts}
 use Rattle.boot_run.specs.Booted.{IsBoot}
-use Rattle.boot_run.proofs.FrameLemmas.{AreShort, left_images}
+use Rattle.boot_run.proofs.FrameLemmas.{left_images}
 use Rattle.boot_run.proofs.WritesLemmas.{AreRewrites, boot_are, boot_short}
 use Rattle.boot_run.proofs.CrashLemmas.{boot_restated, left_verdicts}
 

@@ -1,6 +1,5 @@
 -- The rewrite of a confirmation and of a rejection: of the active entry, as it stands.
-use Rattle.std.proofs.Common.{◌==◌, ◌≡◌, ℕ, zero, suc, ◌<◌, Bool, true, false, List, [], length, Option, Some, None, IsSome, IfSome, Result, Ok, Err, refl, sym, ap, ◌∙◌, subst, if◌then◌else◌, arith}
-use Rattle.std.specs.Option.{is_some}
+use Rattle.std.proofs.Common.{lit<, ◌==◌, ◌≡◌, ℕ, zero, suc, ◌<◌, Bool, true, false, List, [], length, Option, Some, None, IsSome, IfSome, Result, Ok, Err, refl, sym, ap, ◌∙◌, subst, if◌then◌else◌, arith}
 use Rattle.otadata.specs.declared.entry.Entry.{Entry}
 use Rattle.otadata.specs.Choice.{active_of}
 use Rattle.otadata.proofs.ChoiceLemmas.{active-lt}
@@ -9,13 +8,13 @@ use Rattle.partition_table.specs.declared.app.App.TheVariants.{Ota}
 use Rattle.partition_table.specs.Layout.{Places}
 use Rattle.boot_select.specs.Choice.{named_by, named_of, slot_app}
 use Rattle.boot_select.specs.Settled.{sectors}
-use Rattle.boot_select.specs.Boots.{AreTold, entries_in, images_in, names}
+use Rattle.boot_select.specs.Boots.{AreTold, entries_in, images_in}
 use Rattle.rollback.specs.declared.rewrite.Rewrite.{Rewrite}
 use Rattle.rollback.specs.declared.verdict.NoOtaApp.{NoOtaApp}
 use Rattle.rollback.specs.declared.verdict.RejectNo.{RejectNo}
 use Rattle.rollback.specs.declared.verdict.RejectNo.TheVariants as no
-use Rattle.rollback.specs.Rewrite.{changed, restated}
-use Rattle.rollback.specs.Verdict.{confirm_by, confirm_of, is_other, reject_as, reject_by, reject_of, started_after}
+use Rattle.rollback.specs.Rewrite.{restated}
+use Rattle.rollback.specs.Verdict.{confirm_by, confirm_of, is_other, reject_by, reject_of, started_after}
 use Rattle.image_verify.specs.Held.{held}
 use Rattle.rollback.proofs.VerdictLemmas.{reject-told}
 use Rattle.boot_run.specs.Read.{OfWhole, whole_in}
@@ -53,7 +52,7 @@ confirm_are es = at (active_of (es 0) (es 1)) (active-lt (es 0) (es 1))
     one : (y : ℕ) (e : Entry) → y < 2 → e ≡ es y → (done : Bool)
         → AreRewrites es (writes_of (one_of {E = NoOtaApp} (Ok (if done then None else Some (restated 2 y e)))))
     one y e two is true = tt
-    one y e two is false = record { two = two; state = 2; is = ap (restated 2 y) is }
+    one y e two is false = record { two = two; state = 2; fits = lit< tt; is = ap (restated 2 y) is }
 
     at : (active : Option ℕ) → IfSome active (λ number. number < 2)
         → AreRewrites es (writes_of (one_of (confirm_by (sectors (es 0) (es 1)) active)))
@@ -98,7 +97,7 @@ reject_are layout whole es = at (active_of (es 0) (es 1)) (active-lt (es 0) (es 
     one : (y : ℕ) (e : Entry) (app : App) (started : Option App) → y < 2 → e ≡ es y → (other : Bool)
         → AreRewrites es (writes_of (just_one {E = RejectNo} (if other then Ok (restated 3 y e) else Err no.NothingElse)))
     one y e app started two is false = tt
-    one y e app started two is true = record { two = two; state = 3; is = ap (restated 3 y) is }
+    one y e app started two is true = record { two = two; state = 3; fits = lit< tt; is = ap (restated 3 y) is }
 
     at : (active : Option ℕ) → IfSome active (λ number. number < 2)
         → AreRewrites es (writes_of (just_one (reject_by layout whole (sectors (es 0) (es 1)) active)))

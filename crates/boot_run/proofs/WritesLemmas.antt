@@ -1,24 +1,19 @@
 -- The rewrites of a boot: at most two, of different sectors, and each gives the entry that stands there another state.
-use Rattle.std.proofs.Common.{◌==◌, ◌≡◌, ◌⊎◌, inl, inr, ℕ, zero, suc, ◌<◌, ◌≤◌, true, false, List, [], ◌∷◌, ◌++◌, length, get_or, drop, ◌+◌, Option, Some, None, refl, sym, ap, ◌∙◌, subst, if◌then◌else◌, arith, All}
+use Rattle.std.proofs.Common.{◌^◌, lit<, ◌==◌, ◌≡◌, ◌⊎◌, inl, inr, ℕ, zero, suc, ◌<◌, ◌≤◌, true, false, List, [], ◌∷◌, ◌++◌, length, get_or, drop, ◌+◌, Option, Some, None, refl, sym, ap, ◌∙◌, subst, arith, All}
 use Rattle.std.proofs.Math.Seq.{drop-cons}
 use Rattle.std.proofs.lemmas.Bool.{cases_Bool}
 use Rattle.std.proofs.lemmas.List.{drop_all}
 use Rattle.std.proofs.lemmas.List.Elements.{All-nil, All-cons}
 use Rattle.otadata.specs.declared.entry.Entry.{Entry}
 use Rattle.otadata.specs.Choice.{active_of}
-use Rattle.partition_table.specs.declared.app.App.{App}
-use Rattle.partition_table.specs.Layout.{Places}
-use Rattle.boot_select.specs.Candidates.{candidates}
-use Rattle.boot_select.specs.Boots.{first_held}
 use Rattle.rollback.specs.declared.rewrite.Rewrite.{Rewrite}
 use Rattle.rollback.specs.Rewrite.{changed, restated, written}
-use Rattle.rollback.specs.Boot.{abort, aborts, begin, begin_by, begin_in, boot_writes, given_up}
-use Rattle.rollback.specs.Boots.{boots}
+use Rattle.rollback.specs.Boot.{aborts, begin, begin_by, begin_in, boot_writes, given_up}
 use Rattle.rollback.specs.Pair.{other_of}
 use Rattle.rollback.proofs.BootLemmas.{boot_writes-parts}
 use Rattle.rollback.proofs.EntriesLemmas.{written_same}
+use Rattle.boot_run.specs.Rewriting.{AreShort}
 use Rattle.boot_run.specs.Crashed.{IsRestated}
-use Rattle.boot_run.proofs.FrameLemmas.{AreShort}
 
 -- at most two rewrites, of the entries as they stand, in different sectors
 abbrev pub AreRewrites : (ℕ → Entry) → List Rewrite → Type 0
@@ -28,8 +23,8 @@ AreRewrites es (w ∷ v ∷ []) = IsRestated es w × IsRestated es v × (v.secto
 AreRewrites es (w ∷ v ∷ u ∷ ws) = ⊥
 
 -- an entry in another state
-restates : (es : ℕ → Entry) (y state : ℕ) → y < 2 → IsRestated es (restated state y (es y))
-restates es y state two = record { two = two; state = state; is = refl }
+restates : (es : ℕ → Entry) (y state : ℕ) → y < 2 → state < 2 ^ 32 → IsRestated es (restated state y (es y))
+restates es y state two fits = record { two = two; state = state; fits = fits; is = refl }
 
 -- which entry begins to wait: none, or one that was not aborted, as it stands
 begins : (es : ℕ → Entry) (active : Option ℕ) → (begin_by (given_up (es 0)) (given_up (es 1)) active ≡ [])
@@ -65,20 +60,20 @@ gathers : (es : ℕ → Entry) (last : List Rewrite)
     ⊎ ((((es 1).state == 1) ≡ false) × (last ≡ restated 1 1 (es 1) ∷ [])))
     → AreRewrites es (aborts es ++ last)
 gathers es last (inl p) (inl q) (inl is) = rw (p, q, is)
-    (restates es 0 4 (omega arith), restates es 1 4 (omega arith), refl)
+    (restates es 0 4 (omega arith) (lit< tt), restates es 1 4 (omega arith) (lit< tt), refl)
 gathers es last (inl p) (inl q) (inr (inl is)) = absurd (let no = sym p ∙ is.0 in cc)
 gathers es last (inl p) (inl q) (inr (inr is)) = absurd (let no = sym q ∙ is.0 in cc)
-gathers es last (inl p) (inr q) (inl is) = rw (p, q, is) (restates es 0 4 (omega arith))
+gathers es last (inl p) (inr q) (inl is) = rw (p, q, is) (restates es 0 4 (omega arith) (lit< tt))
 gathers es last (inl p) (inr q) (inr (inl is)) = absurd (let no = sym p ∙ is.0 in cc)
 gathers es last (inl p) (inr q) (inr (inr is)) = rw (p, q, is.1)
-    (restates es 0 4 (omega arith), restates es 1 1 (omega arith), refl)
-gathers es last (inr p) (inl q) (inl is) = rw (p, q, is) (restates es 1 4 (omega arith))
+    (restates es 0 4 (omega arith) (lit< tt), restates es 1 1 (omega arith) (lit< tt), refl)
+gathers es last (inr p) (inl q) (inl is) = rw (p, q, is) (restates es 1 4 (omega arith) (lit< tt))
 gathers es last (inr p) (inl q) (inr (inl is)) = rw (p, q, is.1)
-    (restates es 1 4 (omega arith), restates es 0 1 (omega arith), refl)
+    (restates es 1 4 (omega arith) (lit< tt), restates es 0 1 (omega arith) (lit< tt), refl)
 gathers es last (inr p) (inl q) (inr (inr is)) = absurd (let no = sym q ∙ is.0 in cc)
 gathers es last (inr p) (inr q) (inl is) = rw (p, q, is) tt
-gathers es last (inr p) (inr q) (inr (inl is)) = rw (p, q, is.1) (restates es 0 1 (omega arith))
-gathers es last (inr p) (inr q) (inr (inr is)) = rw (p, q, is.1) (restates es 1 1 (omega arith))
+gathers es last (inr p) (inr q) (inr (inl is)) = rw (p, q, is.1) (restates es 0 1 (omega arith) (lit< tt))
+gathers es last (inr p) (inr q) (inr (inr is)) = rw (p, q, is.1) (restates es 1 1 (omega arith) (lit< tt))
 
 -- so are the rewrites of a boot
 pub boot_are : (es : ℕ → Entry) → AreRewrites es (boot_writes es)

@@ -1,5 +1,5 @@
 -- What a loss of power leaves of rewrites of entries, in what then boots.
-use Rattle.std.specs.Prelude.{◌≡◌, ◌≢◌, ◌⊎◌, ◌<◌, ℕ, List, [], ◌∷◌, Option, Some, None, IfSome}
+use Rattle.std.specs.Prelude.{◌≡◌, ◌≢◌, ◌⊎◌, ◌<◌, ◌^◌, ℕ, List, [], ◌∷◌, Option, Some, None, IfSome}
 use Rattle.nor_device.specs.Flash.{after_steps}
 use Rattle.otadata.specs.declared.entry.Entry.{Entry}
 use Rattle.partition_table.specs.Layout.{Places}
@@ -10,10 +10,11 @@ use Rattle.rollback.specs.Boots.{boots_in, BootsByVerdict, IsChance}
 use Rattle.image_verify.specs.Held.{held}
 use Rattle.boot_run.specs.Rewriting.{rewrite}
 
--- the rewrite gives the entry of its sector another state
+-- the rewrite gives the entry of its sector another state, which four bytes hold
 pub record IsRestated (entries : ℕ → Entry) (write : Rewrite) : Type 0 where
   pub two : write.sector < 2
   pub state : ℕ
+  pub fits : state < 2 ^ 32
   pub is : write ≡ restated state write.sector (entries write.sector)
 
 -- of what is left of a flash in a rewrite boots what boots where the entry of the sector is VALID, or is INVALID; or the

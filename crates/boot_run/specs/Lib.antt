@@ -7,3 +7,4 @@ pub mod Verified
 pub mod Crashed
 pub mod Booted
 pub mod Verdict
+pub mod Aim

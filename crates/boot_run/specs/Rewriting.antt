@@ -1,5 +1,5 @@
 -- The steps that rewrite an entry of the OTA data.
-use Rattle.std.specs.Prelude.{◌≡◌, ℕ, ◌+◌, ◌*◌, ◌/◌, ◌%◌, ◌<◌, ◌≤◌, ◌^◌, List, [], ◌∷◌, ◌++◌}
+use Rattle.std.specs.Prelude.{◌≡◌, ℕ, ◌+◌, ◌*◌, ◌/◌, ◌%◌, ◌<◌, ◌≤◌, ◌^◌, List, [], ◌∷◌, ◌++◌, length}
 use Rattle.nor_device.specs.declared.step.Step.{Step}
 use Rattle.nor_device.specs.declared.step.Step.TheVariants.{Erase, Program}
 use Rattle.otadata.specs.Entry.{entry_bytes}
@@ -15,6 +15,11 @@ rewrite otadata write =
 abbrev pub rewrites : ℕ → List Rewrite → List Step
 rewrites otadata [] = []
 rewrites otadata (write ∷ writes) = rewrite otadata write ++ rewrites otadata writes
+
+-- each of the rewrites is of one of the two sectors, and its label is no longer than an entry's
+abbrev pub AreShort : List Rewrite → Type 0
+AreShort [] = Unit {0}
+AreShort (write ∷ writes) = ((write.sector < 2) × (length write.entry.label ≤ 20)) × AreShort writes
 
 -- the two sectors of the OTA data lie in a device of this size, at a sector, and each address fits 32 bits
 pub record AreSectors (otadata size : ℕ) : Type 0 where

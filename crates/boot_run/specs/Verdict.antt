@@ -1,11 +1,14 @@
 -- What a confirmation and a rejection rewrite and answer.
-use Rattle.std.specs.Prelude.{◌≡◌, ℕ, Bool, List, [], ◌∷◌, length, Option, Some, None, Result, Ok, Err}
+use Rattle.std.specs.Prelude.{◌≡◌, ℕ, Bool, List, [], ◌∷◌, length, Option, Some, None, IfSome, Result, Ok, Err, IfOk}
 use Rattle.nor_device.specs.declared.nor.NorFault.{NorFault}
 use Rattle.nor_device.specs.declared.nor.NorFault.TheVariants.{Failed, Off}
 use Rattle.otadata.specs.declared.entry.Entry.{Entry}
 use Rattle.partition_table.specs.declared.app.App.{App}
 use Rattle.partition_table.specs.declared.app.App.TheVariants.{Ota}
 use Rattle.partition_table.specs.Layout.{Places}
+use Rattle.boot_select.specs.Boots.{images_in}
+use Rattle.image_verify.specs.Held.{held}
+use Rattle.rollback.specs.Boots.{boots_in}
 use Rattle.rollback.specs.declared.rewrite.Rewrite.{Rewrite}
 use Rattle.rollback.specs.declared.verdict.NoOtaApp.{NoOtaApp}
 use Rattle.rollback.specs.declared.verdict.RejectNo.{RejectNo}
@@ -68,3 +71,15 @@ reject_answer (Err reject.NoOtaApp) = Ok (Err no.NoOtaApp)
 reject_answer (Err reject.NothingElse) = Ok (Err no.NothingElse)
 reject_answer (Err reject.Device) = Err Failed
 reject_answer (Err reject.Cut) = Err Off
+
+-- where the device tells its bytes, this application boots now, if its partition held an image
+abbrev pub BootsNow : Places → Option (List ℕ) → Option (List ℕ) → App → Type 0
+BootsNow layout old new app = IfSome old (λ flash. (image : List ℕ)
+    → images_in held layout flash app ≡ Some image
+    → (left : List ℕ) × (new ≡ Some left) × (boots_in held layout left ≡ Some (app, image)))
+
+-- the application of the slot that a confirmation tells boots now
+abbrev pub BootsTold : Places → Option (List ℕ) → Option (List ℕ)
+    → Result (Result Told NoOtaApp) NorFault → Type 0
+BootsTold layout old new answer =
+    IfOk answer (λ found. IfOk found (λ told. BootsNow layout old new (Ota told.slot)))

@@ -11,7 +11,7 @@ ghost use Rattle.boot_run.specs.Made.{AreMade, AreMadeBy, AreMissed};
 ghost use Rattle.boot_run.specs.Rewriting.{rewrites};
 ghost use Rattle.boot_run.specs.Read.{OfEntries};
 ghost use Rattle.boot_run.specs.Crashed.{IsLeftByVerdicts, StillBoots};
-ghost use Rattle.boot_run.specs.Verdict.{Answers, confirm_answer, confirmation, writes_of};
+ghost use Rattle.boot_run.specs.Verdict.{Answers, BootsTold, confirm_answer, confirmation, writes_of};
 
 use crate::entries::read_entries;
 use crate::told::{ConfirmFault, Told};
@@ -23,6 +23,7 @@ use partition_table::{App, Layout};
 use rollback::{NoOtaApp, confirm_write};
 
 /// Marks the active entry VALID. Nothing is written where it is so already, or where no entry is active.
+/// Afterwards the application that is confirmed boots, where its slot holds a whole image.
 pub fn confirm<D: Nor>(device: &mut D, layout: &Layout) -> Result<Told, ConfirmFault>
     requires idle { D.running device.old ≡ None }
     requires placed { IsPlaced layout.now (D.size device.old) }
@@ -44,6 +45,8 @@ pub fn confirm<D: Nor>(device: &mut D, layout: &Layout) -> Result<Told, ConfirmF
         (λ flash. writes_of (confirmation (entries_in layout.now flash)))
         (D.bytes device.old) (D.bytes device.new)) }
     ensures still { StillBoots layout.now (D.bytes device.old) (D.bytes device.new) }
+    ensures boots { BootsTold layout.now (D.bytes device.old) (D.bytes device.new)
+        (confirm_answer result) }
 {
     confirmed(confirm_on(device, layout))
 }
@@ -83,6 +86,7 @@ fn confirm_on<D: Nor>(
         (λ flash. writes_of (confirmation (entries_in layout.now flash)))
         (D.bytes device.old) (D.bytes device.new)) }
     ensures still { StillBoots layout.now (D.bytes device.old) (D.bytes device.new) }
+    ensures boots { BootsTold layout.now (D.bytes device.old) (D.bytes device.new) result }
 {
     let (first, second) = read_entries(device, layout)?;
     confirm_by(device, layout, &first, &second)

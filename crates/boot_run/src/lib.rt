@@ -1,10 +1,13 @@
 //! The bootloader on a device: what it rewrites, and which application it starts.
 #![tactic(auto)]
 
+mod aiming;
+mod aims;
 mod booted;
 mod booting;
 mod confirming;
 mod entries;
+mod laws;
 mod previewing;
 mod rejecting;
 mod start;
@@ -13,9 +16,12 @@ mod verify;
 mod whole;
 mod write;
 
+pub use aiming::aim;
+pub use aims::{Aim, AimNo};
 pub use booted::{BootFault, Booted};
 pub use booting::boot;
 pub use confirming::confirm;
+pub use laws::{lost_rewrites_leave_verdicts, rewrites_are_read_back};
 pub use previewing::{NoApp, preview};
 pub use rejecting::reject;
 pub use told::{ConfirmFault, RejectFault, Told};

@@ -18,6 +18,7 @@ use partition_table::{App, Layout, Row};
 pub fn order(layout: &Layout, e0: &Entry, e1: &Entry) -> ArrayVec<App, 18>
     ensures exact { result.items ≡ candidates layout.now (named_of layout.now e0.now e1.now) }
     ensures placed { All (λ app. IsSome (row_for layout.now app)) result.items }
+    ensures start { IsStart layout.now (named_of layout.now e0.now e1.now) }
 {
     order_from(layout, named(layout, e0, e1))
 }

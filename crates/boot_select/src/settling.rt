@@ -1,12 +1,12 @@
 //! Whether an update may begin: no entry waits for its application, and the application that the OTA
 //! data name is the one that is started.
 
-ghost use Rattle.std.specs.Prelude.{◌≡◌, ◌↔◌, ℕ, true, Ok, Err, Some, None};
+ghost use Rattle.std.specs.Prelude.{◌≡◌, ◌↔◌, ℕ, true, Ok, Err, Some, None, IfOk};
 ghost use Rattle.otadata.specs.declared.entry.Entry.{Entry};
 ghost use Rattle.partition_table.specs.declared.app.App.{App};
 ghost use Rattle.otadata.specs.Choice.{active_of};
 ghost use Rattle.boot_select.specs.Choice.{named_of};
-ghost use Rattle.boot_select.specs.Candidates.{is_whole, started_from};
+ghost use Rattle.boot_select.specs.Candidates.{IsStart, is_whole, started_from};
 ghost use Rattle.boot_select.specs.Settled.{FallsBack, NoneStarts, NoneWaits, Settles, Waits, is_same, settled_by, settled_of, started_as, waiting_in, waiting_new, waiting_of};
 ghost use Rattle.boot_select.specs.declared.settling.Unsettled.TheVariants.{Fallback, NoApp, Waiting};
 
@@ -40,11 +40,21 @@ pub fn settled(layout: &Layout, e0: &Entry, e1: &Entry, ok: &[bool; 18]) -> Resu
     ensures fallback { (named started : App) → (result ≡ Err (Fallback named started))
         ↔ FallsBack layout.now (is_whole ok.now) e0.now e1.now named started }
 {
-    settled_by(
-        waiting(e0, e1),
-        named(layout, e0, e1),
-        choose(layout, e0, e1, ok),
-    )
+    settled_as(layout, e0, e1, choose(layout, e0, e1, ok))
+}
+
+/// The application that runs, by the first candidate that is whole: what `settled` finds by truth values.
+pub fn settled_as(
+    layout: &Layout,
+    e0: &Entry,
+    e1: &Entry,
+    started: Option<App>,
+) -> Result<App, Unsettled>
+    ensures exact { result ≡ settled_by (waiting_of e0.now e1.now)
+        (named_of layout.now e0.now e1.now) started }
+    ensures start { IfOk result (IsStart layout.now) }
+{
+    settled_by(waiting(e0, e1), named(layout, e0, e1), started)
 }
 
 /// The application that runs, by the entry that waits, what is named and what is started.

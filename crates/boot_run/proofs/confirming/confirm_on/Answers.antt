@@ -1,5 +1,5 @@
 use Rattle.std.proofs.Common.{IfOk}
-use Rattle.std.proofs.lemmas.Result.{err_from_is_err_and}
+use Rattle.std.proofs.lemmas.Result.{IfOk-weaker, err_from_is_err_and}
 use Rattle.boot_select.specs.Choice.{named_of}
 use Rattle.boot_select.specs.Settled.{sectors}
 use Rattle.boot_select.specs.Boots.{entries_in}
@@ -7,10 +7,11 @@ use Rattle.rollback.specs.Verdict.{confirm_of}
 use Rattle.boot_run.specs.Made.{AreMadeBy}
 use Rattle.boot_run.specs.Rewriting.{rewrites}
 use Rattle.boot_run.specs.Verdict.{Answers, confirmation, one_of, writes_of}
-use Rattle.boot_run.proofs.MadeLemmas.{made_by, made_by_left, missed_none}
+use Rattle.boot_run.proofs.MadeLemmas.{made_by, made_by_left, made_by_ok, missed_none}
 use Rattle.boot_run.proofs.CrashLemmas.{told_boots}
 use Rattle.boot_run.proofs.StartedLemmas.{any_entries, by_short, on_err_any, read_crash, read_pair, unread_crash}
 use Rattle.boot_run.proofs.VerdictLemmas.{confirmation_by}
+use Rattle.boot_run.proofs.ConfirmedLemmas.{told_confirmed}
 use Rattle.boot_run.proofs.confirming.confirm_on.Goals as goal
 
 -- a read was refused before any step
@@ -80,3 +81,20 @@ returns-clause-still g c =
     (by_short (λ es. writes_of (confirmation es)) e0 e1 confirmation_by c.in_ok-first.ensures.stored.0
     c.in_ok-first.ensures.stored.1)
     (made_by_left n.may_end n.may_tear n.may_refuse n.must_refuse _ _ _ _ _ _ c.confirm_by.result made)
+
+-- the application that is confirmed boots now
+pub returns-clause-boots : goal.returns-clause-boots
+returns-clause-boots g c =
+    let n = g.D.Nor in
+    let layout = c.args.layout.now in
+    let read = c.read_entries.ensures in
+    let it = c.confirm_by.ensures in
+    let e0 = c.in_ok-first.first in
+    let e1 = c.in_ok-first.second in
+    let made = made_by n.may_end n.may_tear n.may_refuse n.must_refuse (n.setting c.args.device.now) _ _ _ _ _ _ _ _
+    c.confirm_by.result read.setting.setting_same read.setting.steps_same read.same.bytes_same it.made it.missed in
+    told_confirmed layout (n.size c.args.device.now) e0 e1 (n.bytes c.args.device.now) (n.bytes c.confirm_by.new.device)
+    c.confirm_by.result c.requires.placed (λ flash told. g.met.D.Nor.sized c.args.device.now flash told)
+    c.in_ok-first.ensures.first c.in_ok-first.ensures.second c.in_ok-first.ensures.stored.0 c.in_ok-first.ensures.stored.1
+    (IfOk-weaker c.confirm_by.result _ _ (λ x all. all.bytes)
+    (made_by_ok n.may_end n.may_tear n.may_refuse n.must_refuse _ _ _ _ _ _ c.confirm_by.result made)) it.answers

@@ -11,7 +11,7 @@ returns c =
     let whole = is_whole c.args.ok.now in
     let e0 = c.args.e0.now in
     let e1 = c.args.e1.now in
-    let is : c.settled_by.result ≡ settled_of layout whole e0 e1 = cc in
+    let is : c.settled_as.result ≡ settled_of layout whole e0 e1 = cc in
     record {
       exact = is;
       ok = λ app. rw is (settled-ok layout whole e0 e1 app);
