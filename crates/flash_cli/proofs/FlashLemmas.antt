@@ -26,7 +26,6 @@ use Rattle.image_verify.specs.Held.{held}
 use Rattle.image_verify.proofs.HeldFacts.{held_from}
 use Rattle.flash_text.specs.declared.refusal.Refusal.{Refusal}
 use Rattle.flash_text.specs.declared.refusal.Refusal.TheVariants.{FlashSize, TableLength}
-use Rattle.flash_cli.specs.Choice.{choice_in}
 use Rattle.flash_cli.specs.TableShow.{file_rows, rows_or_refusal}
 use Rattle.flash_cli.specs.FlashMake.{erased_flash, flash_by_layout, flash_by_rows, flash_with, made_flash, unless_bad, with_at}
 use Rattle.flash_cli.specs.Laws.{IsFactoryFlash, slot_of}
@@ -170,7 +169,6 @@ module _ (size : ℕ) (rows : List Row) (layout : Places) (image : List ℕ) (li
 
   -- so it is one as it is written at a factory
   factory_flash : layout_in flash ≡ Ok layout → IsFactoryFlash flash image
-  unfolding choice_in
   factory_flash laid = record {
     layout = layout;
     laid = laid;

@@ -8,3 +8,6 @@ pub mod PutLemmas
 pub mod OutcomeLemmas
 pub mod CallLaws
 pub mod MadeLaws
+pub mod DeviceLemmas
+pub mod BootLemmas
+pub mod VerdictLemmas

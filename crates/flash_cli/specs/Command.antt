@@ -5,9 +5,9 @@ use Rattle.std.specs.declared.alloc.Global.{Global}
 use Rattle.pipe_ends.specs.Number.{number_of_text}
 use Rattle.flash_cli.specs.declared.command.Row.{Row as CodeRow}
 use Rattle.flash_cli.specs.declared.command.Kind.{Kind}
-use Rattle.flash_cli.specs.declared.command.Kind.TheVariants.{Choose as ChooseKind, ImageMake as ImageMakeKind, ImageCheck as ImageCheckKind, TableMake as TableMakeKind, TableShow as TableShowKind, FlashMake as FlashMakeKind}
+use Rattle.flash_cli.specs.declared.command.Kind.TheVariants.{Choose as ChooseKind, Boot as BootKind, Confirm as ConfirmKind, Reject as RejectKind, ImageMake as ImageMakeKind, ImageCheck as ImageCheckKind, TableMake as TableMakeKind, TableShow as TableShowKind, FlashMake as FlashMakeKind}
 use Rattle.flash_cli.specs.declared.command.Command.{Command as Parsed}
-use Rattle.flash_cli.specs.declared.command.Command.TheVariants.{Choose as ParsedChoose, ImageMake as ParsedImageMake, ImageCheck as ParsedImageCheck, TableMake as ParsedTableMake, TableShow as ParsedTableShow, FlashMake as ParsedFlashMake}
+use Rattle.flash_cli.specs.declared.command.Command.TheVariants.{Choose as ParsedChoose, Boot as ParsedBoot, Confirm as ParsedConfirm, Reject as ParsedReject, ImageMake as ParsedImageMake, ImageCheck as ParsedImageCheck, TableMake as ParsedTableMake, TableShow as ParsedTableShow, FlashMake as ParsedFlashMake}
 
 -- a row of the table of commands: the word, how many names stand after it, the words of the options that
 -- may stand after these, and whether it starts cores
@@ -27,6 +27,9 @@ plain_row kind word names =
 abbrev pub rows : List Row
 rows =
     plain_row ChooseKind (codes "choose") 1
+    ∷ plain_row BootKind (codes "boot") 2
+    ∷ plain_row ConfirmKind (codes "confirm") 2
+    ∷ plain_row RejectKind (codes "reject") 2
     ∷ plain_row ImageMakeKind (codes "image-make") 2
     ∷ plain_row ImageCheckKind (codes "image-check") 1
     ∷ plain_row TableMakeKind (codes "table-make") 2
@@ -47,6 +50,9 @@ shown_row row = record {
 -- a command, with the names of its files, and with the number of bytes that its flash is to have
 pub data Command : Type 0 where
   Choose : List ℕ → Command
+  Boot : List ℕ → List ℕ → Command
+  Confirm : List ℕ → List ℕ → Command
+  Reject : List ℕ → List ℕ → Command
   ImageMake : List ℕ → List ℕ → Command
   ImageCheck : List ℕ → Command
   TableMake : List ℕ → List ℕ → Command
@@ -58,6 +64,12 @@ pub data Command : Type 0 where
 abbrev pub made : Kind → List (List ℕ) → Option Command
 made ChooseKind (flash ∷ []) = Some (Choose flash)
 made ChooseKind _ = None
+made BootKind (flash ∷ out ∷ []) = Some (Boot flash out)
+made BootKind _ = None
+made ConfirmKind (flash ∷ out ∷ []) = Some (Confirm flash out)
+made ConfirmKind _ = None
+made RejectKind (flash ∷ out ∷ []) = Some (Reject flash out)
+made RejectKind _ = None
 made ImageMakeKind (plan ∷ out ∷ []) = Some (ImageMake plan out)
 made ImageMakeKind _ = None
 made ImageCheckKind (file ∷ []) = Some (ImageCheck file)
@@ -73,6 +85,9 @@ made FlashMakeKind _ = None
 -- a command without the borrow of its words
 abbrev pub shown : Parsed → Command
 shown (ParsedChoose flash) = Choose flash.now
+shown (ParsedBoot flash out) = Boot flash.now out.now
+shown (ParsedConfirm flash out) = Confirm flash.now out.now
+shown (ParsedReject flash out) = Reject flash.now out.now
 shown (ParsedImageMake plan out) = ImageMake plan.now out.now
 shown (ParsedImageCheck file) = ImageCheck file.now
 shown (ParsedTableMake csv out) = TableMake csv.now out.now

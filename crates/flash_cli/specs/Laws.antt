@@ -6,11 +6,11 @@ use Rattle.pipe_ends.specs.Sink.{TellsAll}
 use Rattle.partition_table.specs.declared.app.App.TheVariants.{Factory}
 use Rattle.partition_table.specs.declared.row.Row.{Row}
 use Rattle.partition_table.specs.Layout.{Places, layout_in}
+use Rattle.boot_select.specs.Boots.{entries_in, names}
 use Rattle.image_verify.specs.Held.{held}
 use Rattle.flash_text.specs.declared.refusal.Refusal.{Refusal}
 use Rattle.flash_cli.specs.declared.status.Status.{Status}
 use Rattle.flash_cli.specs.declared.status.Status.TheVariants.{Done, Usage, Refused, StoreFault, SinkFault}
-use Rattle.flash_cli.specs.Choice.{choice_in}
 use Rattle.flash_cli.specs.Command.{Command, ImageMake, ImageCheck}
 use Rattle.flash_cli.specs.Answer.{TellsPuts, files_after}
 use Rattle.flash_cli.specs.FlashMake.{made_flash}
@@ -76,7 +76,7 @@ pub record IsFactoryFlash (flash image : List ℕ) : Type 0 where
   pub layout : Places
   pub laid : layout_in flash ≡ Ok layout
   pub holds : held (slot_of layout.factory flash) ≡ Some image
-  pub named : (choice_in flash layout).app ≡ Factory
+  pub named : names layout (entries_in layout flash) ≡ Factory
 
 -- the flash that is made of the bytes of a table file and an image is one
 abbrev pub MadeIsFactoryFlash : Type 0

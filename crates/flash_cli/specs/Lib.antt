@@ -1,10 +1,16 @@
 pub mod Command
 pub mod Status
+pub mod Laid
 pub mod Choice
 pub mod Text
 pub mod Answer
 pub mod Reading
+pub mod Device
 pub mod Choose
+pub mod Boot
+pub mod Verdict
+pub mod Confirm
+pub mod Reject
 pub mod ImageMake
 pub mod ImageCheck
 pub mod TableMake

@@ -15,10 +15,13 @@ use Rattle.image_maker.specs.declared.refusal.PlanNo.TheVariants as no_plan
 use Rattle.flash_text.specs.declared.refusal.Refusal.TheVariants.{Absent as AbsentFile, Plan}
 use Rattle.flash_cli.specs.declared.status.Status.{Status}
 use Rattle.flash_cli.specs.declared.status.Status.TheVariants.{Done}
-use Rattle.flash_cli.specs.Command.{Command, Choose, ImageMake, ImageCheck, TableMake, TableShow, FlashMake}
+use Rattle.flash_cli.specs.Command.{Command, Choose, Boot, Confirm, Reject, ImageMake, ImageCheck, TableMake, TableShow, FlashMake}
 use Rattle.flash_cli.specs.Reading.{Reading, Ended, Asks, Absence, ComesTo, TellsAnswer, asks_all, read_in}
 use Rattle.flash_cli.specs.Answer.{Answer, Outcome, TellsPuts, TellsSomePuts, shown_answer, usage_outcome, refused_outcome}
 use Rattle.flash_cli.specs.Choose.{choose_answer}
+use Rattle.flash_cli.specs.Boot.{boot_answer}
+use Rattle.flash_cli.specs.Confirm.{confirm_answer}
+use Rattle.flash_cli.specs.Reject.{reject_answer}
 use Rattle.flash_cli.specs.ImageMake.{image_make_reading}
 use Rattle.flash_cli.specs.ImageCheck.{image_check_answer}
 use Rattle.flash_cli.specs.TableMake.{table_make_answer}
@@ -28,6 +31,9 @@ use Rattle.flash_cli.specs.FlashMake.{flash_make_answer}
 -- what each command reads, and what it comes to: its answer, or the first refusal
 abbrev pub reading_of : Command → Reading (Result Answer Refusal)
 reading_of (Choose flash) = Asks flash (λ bytes. Ended (choose_answer bytes))
+reading_of (Boot flash out) = Asks flash (λ bytes. Ended (boot_answer bytes out))
+reading_of (Confirm flash out) = Asks flash (λ bytes. Ended (confirm_answer bytes out))
+reading_of (Reject flash out) = Asks flash (λ bytes. Ended (reject_answer bytes out))
 reading_of (ImageMake plan out) = Asks plan (λ text. image_make_reading out text)
 reading_of (ImageCheck file) = Asks file (λ bytes. Ended (image_check_answer bytes))
 reading_of (TableMake csv out) = Asks csv (λ bytes. Ended (table_make_answer out bytes))

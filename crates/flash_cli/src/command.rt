@@ -12,6 +12,12 @@ use pipe_ends::read_number;
 pub(crate) enum Kind {
     /// `choose FLASH`
     Choose,
+    /// `boot FLASH OUT`
+    Boot,
+    /// `confirm FLASH OUT`
+    Confirm,
+    /// `reject FLASH OUT`
+    Reject,
     /// `image-make PLAN OUT`
     ImageMake,
     /// `image-check FILE`
@@ -36,7 +42,7 @@ pub(crate) struct Row {
 }
 
 /// How many commands there are.
-const COMMANDS: usize = 6;
+const COMMANDS: usize = 9;
 
 /// The table of commands, in the order of the usage line.
 pub(crate) fn table() -> [Row; COMMANDS]
@@ -44,6 +50,9 @@ pub(crate) fn table() -> [Row; COMMANDS]
 {
     [
         Row::plain(Kind::Choose, "choose", 1),
+        Row::plain(Kind::Boot, "boot", 2),
+        Row::plain(Kind::Confirm, "confirm", 2),
+        Row::plain(Kind::Reject, "reject", 2),
         Row::plain(Kind::ImageMake, "image-make", 2),
         Row::plain(Kind::ImageCheck, "image-check", 1),
         Row::plain(Kind::TableMake, "table-make", 2),
@@ -55,9 +64,24 @@ pub(crate) fn table() -> [Row; COMMANDS]
 /// A command, with the names of its files as they stand in the words.
 #[derive(Clone, Copy, Debug, PartialEq, Eq)]
 pub(crate) enum Command<'a> {
-    /// Print the entries of a flash's OTA data, and the application that they name.
+    /// Print the entries of a flash's OTA data, the application that they name, and the one that boots.
     Choose {
         flash: &'a str,
+    },
+    /// Put a flash once it has booted, and print what it started.
+    Boot {
+        flash: &'a str,
+        out: &'a str,
+    },
+    /// Put a flash once its active entry is VALID, and print the application of its slot.
+    Confirm {
+        flash: &'a str,
+        out: &'a str,
+    },
+    /// Put a flash once its active entry is INVALID, and print the application of its slot.
+    Reject {
+        flash: &'a str,
+        out: &'a str,
     },
     /// Put the image that a plan and its parts make.
     ImageMake {
@@ -112,6 +136,21 @@ impl<'a> Command<'a> {
                 flash: flash.as_str(),
             }),
             (Kind::Choose, _) => None,
+            (Kind::Boot, [flash, out]) => Some(Command::Boot {
+                flash: flash.as_str(),
+                out: out.as_str(),
+            }),
+            (Kind::Boot, _) => None,
+            (Kind::Confirm, [flash, out]) => Some(Command::Confirm {
+                flash: flash.as_str(),
+                out: out.as_str(),
+            }),
+            (Kind::Confirm, _) => None,
+            (Kind::Reject, [flash, out]) => Some(Command::Reject {
+                flash: flash.as_str(),
+                out: out.as_str(),
+            }),
+            (Kind::Reject, _) => None,
             (Kind::ImageMake, [plan, out]) => Some(Command::ImageMake {
                 plan: plan.as_str(),
                 out: out.as_str(),
@@ -244,5 +283,39 @@ fn has_option(option: &str, words: &[String]) -> bool
         [] => false,
         [_] => false,
         [word, _, more @ ..] => word.as_str() == option || has_option(option, more),
+    }
+}
+
+#[cfg(test)]
+mod tests {
+    use super::{Kind, Row};
+    use std::test::Fail;
+
+    #[test]
+    fn options_stand_behind_the_names_each_at_most_once(rt: HostRuntime) -> Result<(), Fail> {
+        let row = Row {
+            options: &["--cut", "--tear"],
+            ..Row::plain(Kind::Choose, "choose", 1)
+        };
+        for (words, wanted) in [
+            ("F", true),
+            ("F --cut 1", true),
+            ("F --tear 0 --cut 1", true),
+            ("F --cut --tear", true),
+            ("", false),
+            ("F F", false),
+            ("--cut 1 F", false),
+            ("F --cut", false),
+            ("F --cut 1 F", false),
+            ("F --fail 1", false),
+            ("F --cut 1 --cut 2", false),
+        ] {
+            let mut all = Vec::new(rt.alloc());
+            for word in words.split(' ') {
+                all.push(String::from_str(rt.alloc(), word)?)?;
+            }
+            assert_eq!(rt; row.fits(&all), wanted, "{words}");
+        }
+        Ok(())
     }
 }

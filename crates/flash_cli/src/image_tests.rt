@@ -1,7 +1,7 @@
 //! Rows from outside of the commands on images: calls one after the other on one store.
 
 use crate::status::Status;
-use crate::tests::{BLANK_LINES, SOURCE, called, write};
+use crate::tests::{BLANK_LINES, SOURCE, USAGE, called, write};
 use flash_text::Refusal;
 use pipe_ends::{GetFault, MemStore, PutFault, Store};
 use std::alloc::{AllocError, Global};
@@ -42,7 +42,7 @@ project -
 const LARGE_PLAN: &[u8] = b"entry 1\nhash off\nsegment 0x3FFB0000 large.bin\n";
 
 /// The image of the plan, by the format and Python's `hashlib.sha256`.
-const IMAGE: [u8; 80] = [
+pub(crate) const IMAGE: [u8; 80] = [
     0xE9, 0x01, 0x02, 0x20, 0x00, 0x04, 0x08, 0x40, 0xEE, 0x00, 0x00, 0x00, 0x00, 0x00, 0x00, 0x00,
     0x00, 0x00, 0x00, 0x00, 0x00, 0x00, 0x00, 0x01, 0x20, 0x00, 0x40, 0x3F, 0x04, 0x00, 0x00, 0x00,
     0x01, 0x02, 0x03, 0x04, 0x00, 0x00, 0x00, 0x00, 0x00, 0x00, 0x00, 0x00, 0x00, 0x00, 0x00, 0xEB,
@@ -103,7 +103,7 @@ fn changed(alloc: Global, at: usize, bytes: &[u8]) -> Result<Vec<u8>, AllocError
 }
 
 /// A store with these files, with the image less its last byte, and with the image and one byte more.
-fn store_of_all(alloc: Global) -> Result<MemStore, PutFault> {
+pub(crate) fn store_of_all(alloc: Global) -> Result<MemStore, PutFault> {
     let mut store = MemStore::new(Vec::new(alloc), Vec::new(alloc));
     store.put(alloc, "t.csv", SOURCE.as_bytes())?;
     for (name, bytes) in FILES {
@@ -156,7 +156,6 @@ fn done_calls<'a>() -> [Call<'a>; 13] {
 
 /// The calls that are refused, or are no command, after those.
 fn refused_calls<'a>() -> [Call<'a>; 20] {
-    let usage = "usage: flash_cli choose|image-make|image-check|table-make|table-show|flash-make\n";
     [
         (&["image-make", "none", "X"], 2, "refused: absent none\n"),
         (
@@ -231,14 +230,14 @@ fn refused_calls<'a>() -> [Call<'a>; 20] {
             2,
             "refused: image too large 1048592 1048576\n",
         ),
-        (&["flash-make", "T", "A", "4M", "X"], 1, usage),
-        (&["flash-make", "T", "A", "4194304"], 1, usage),
-        (&["image-check", "A", "--cut", "1"], 1, usage),
+        (&["flash-make", "T", "A", "4M", "X"], 1, USAGE),
+        (&["flash-make", "T", "A", "4194304"], 1, USAGE),
+        (&["image-check", "A", "--cut", "1"], 1, USAGE),
     ]
 }
 
 /// Makes calls on a store, and tells the first that ends otherwise.
-fn first_other<'a>(
+pub(crate) fn first_other<'a>(
     alloc: Global,
     calls: &[Call<'a>],
     store: &mut MemStore,

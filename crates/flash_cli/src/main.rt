@@ -2,9 +2,14 @@
 #![tactic(auto)]
 
 mod answer;
+mod boot;
+#[cfg(test)]
+mod boot_tests;
 mod choice;
 mod choose;
 mod command;
+mod confirm;
+mod device;
 mod error;
 mod files;
 mod flash_make;
@@ -12,7 +17,9 @@ mod image_check;
 mod image_make;
 #[cfg(test)]
 mod image_tests;
+mod laid;
 mod laws;
+mod reject;
 mod status;
 mod table_make;
 mod table_show;
@@ -20,6 +27,7 @@ mod table_show;
 mod tests;
 mod text;
 mod top;
+mod verdict;
 mod verified;
 
 use crate::status::Status;

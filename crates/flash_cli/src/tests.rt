@@ -2,6 +2,7 @@
 
 use crate::error::Failure;
 use crate::files::put_files;
+use crate::image_tests::IMAGE;
 use crate::status::Status;
 use crate::top::plain;
 use flash_text::Refusal;
@@ -53,12 +54,13 @@ const THIRD: Numbers = (3, VALID, 0xED4A5011);
 /// No byte of the flash is changed.
 const UNCHANGED: (usize, u8) = (usize::MAX, 0);
 
-const USAGE: &str =
-    "usage: flash_cli choose|image-make|image-check|table-make|table-show|flash-make\n";
+pub(crate) const USAGE: &str = "usage: flash_cli choose|boot|confirm|reject|image-make|image-check|\
+    table-make|table-show|flash-make\n";
 
 pub(crate) const BLANK_LINES: &str = "entry 0 seq 4294967295 state UNDEFINED invalid
 entry 1 seq 4294967295 state UNDEFINED invalid
 names factory
+boots factory 80
 ";
 
 /// A call of the program on a store with the one file F0, a flash of this size.
@@ -130,6 +132,11 @@ fn flash_of(alloc: Global, row: &Row<'_>) -> Result<Vec<u8>, AllocError> {
         write(&mut flash, at + 24, &state.to_le_bytes());
         write(&mut flash, at + 28, &crc.to_le_bytes());
     }
+    for (kind, _, offset, _) in PARTITIONS {
+        if kind == 0 {
+            write(&mut flash, offset as usize, &IMAGE);
+        }
+    }
     write(&mut flash, row.change.0, &[row.change.1]);
     Ok(flash)
 }
@@ -170,34 +177,38 @@ fn rows<'a>() -> [Row<'a>; 23] {
         done(
             "the greater sequence is active",
             [SECOND, THIRD],
-            "entry 0 seq 2 state VALID valid\nentry 1 seq 3 state VALID valid\nnames ota_0\n",
+            "entry 0 seq 2 state VALID valid\nentry 1 seq 3 state VALID valid\n\
+             names ota_0\nboots ota_0 80\n",
         ),
         done(
             "a tie",
             [SECOND, SECOND],
-            "entry 0 seq 2 state VALID valid\nentry 1 seq 2 state VALID valid\nnames ota_1\n",
+            "entry 0 seq 2 state VALID valid\nentry 1 seq 2 state VALID valid\n\
+             names ota_1\nboots ota_1 80\n",
         ),
         done(
             "sequence 0, whose CRC matches",
             [(0, VALID, 0xFFFF_FFFF), ERASED],
             "entry 0 seq 0 state VALID invalid\n\
-             entry 1 seq 4294967295 state UNDEFINED invalid\nnames factory\n",
+             entry 1 seq 4294967295 state UNDEFINED invalid\nnames factory\nboots factory 80\n",
         ),
         done(
             "a rejected entry, and one that waits",
             [(3, INVALID, THIRD.2), (2, PENDING_VERIFY, SECOND.2)],
             "entry 0 seq 3 state INVALID invalid\n\
-             entry 1 seq 2 state PENDING_VERIFY valid\nnames ota_1\n",
+             entry 1 seq 2 state PENDING_VERIFY valid\nnames ota_1\nboots factory 80\n",
         ),
         done(
             "a new entry, and one given up",
             [(1, NEW, FIRST.2), (2, ABORTED, SECOND.2)],
-            "entry 0 seq 1 state NEW valid\nentry 1 seq 2 state ABORTED invalid\nnames ota_0\n",
+            "entry 0 seq 1 state NEW valid\nentry 1 seq 2 state ABORTED invalid\n\
+             names ota_0\nboots ota_0 80\n",
         ),
         done(
             "a state without a name, and a CRC that doesn't match",
             [(1, 0xABCD, FIRST.2), (2, VALID, FIRST.2)],
-            "entry 0 seq 1 state 0000ABCD valid\nentry 1 seq 2 state VALID invalid\nnames ota_0\n",
+            "entry 0 seq 1 state 0000ABCD valid\nentry 1 seq 2 state VALID invalid\n\
+             names ota_0\nboots ota_0 80\n",
         ),
         Row {
             change: (0x80A0, 0x00),

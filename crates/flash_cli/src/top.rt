@@ -8,13 +8,16 @@ ghost use Rattle.flash_cli.specs.Status.{IsWork, IsDevices};
 ghost use Rattle.flash_cli.specs.Report.{IsOutcome, EndsWhole, EndsBeforeText, EndsInText, EndsEarly, IsCountedFailure, IsCommandsFailure, IsEnd, reading_of};
 
 use crate::answer::{Answer, Finished};
+use crate::boot::run_boot;
 use crate::choose::run_choose;
 use crate::command::Command;
+use crate::confirm::run_confirm;
 use crate::error::{CommandError, Failure};
 use crate::files::put_files;
 use crate::flash_make::run_flash_make;
 use crate::image_check::run_image_check;
 use crate::image_make::run_image_make;
+use crate::reject::run_reject;
 use crate::status::Status;
 use crate::table_make::run_table_make;
 use crate::table_show::run_table_show;
@@ -133,6 +136,9 @@ fn carry_out<S: Store>(
 {
     match command {
         Command::Choose { flash } => run_choose(alloc, store, flash),
+        Command::Boot { flash, out } => run_boot(alloc, store, flash, out),
+        Command::Confirm { flash, out } => run_confirm(alloc, store, flash, out),
+        Command::Reject { flash, out } => run_reject(alloc, store, flash, out),
         Command::ImageMake { plan, out } => run_image_make(alloc, store, plan, out),
         Command::ImageCheck { file } => run_image_check(alloc, store, file),
         Command::TableMake { csv, out } => run_table_make(alloc, store, csv, out),

@@ -1,3 +1,4 @@
 pub mod TableText
 pub mod ImageText
 pub mod Text
+pub mod BootText

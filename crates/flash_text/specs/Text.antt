@@ -6,7 +6,7 @@ use Rattle.partition_table.specs.declared.app.App.TheVariants.{Ota, Factory, Tes
 use Rattle.otadata.specs.declared.entry.Entry.{Entry}
 use Rattle.otadata.specs.Choice.{is_valid}
 use Rattle.flash_text.specs.declared.refusal.Refusal.{Refusal}
-use Rattle.flash_text.specs.declared.refusal.Refusal.TheVariants.{Absent, FlashSize, TableLength, Table, Csv, Plan, Make, Image}
+use Rattle.flash_text.specs.declared.refusal.Refusal.TheVariants.{Absent, FlashSize, TableLength, Table, Csv, Plan, Make, Image, NoApplication, NoOtaApp, NothingElse}
 use Rattle.flash_text.specs.TableText.{table_bad_text, csv_text}
 use Rattle.flash_text.specs.ImageText.{plan_text, make_text, bad_image_text}
 
@@ -59,6 +59,9 @@ refusal_text name (Csv number why) = csv_text number why
 refusal_text name (Plan line why) = plan_text line why
 refusal_text name (Make why) = make_text why
 refusal_text name (Image why) = bad_image_text why
+refusal_text name NoApplication = codes "no application"
+refusal_text name NoOtaApp = codes "no ota app"
+refusal_text name NothingElse = codes "nothing else"
 
 -- the line of a refusal
 unfoldable pub refusal_line : List ℕ → Refusal → List ℕ

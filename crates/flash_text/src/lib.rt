@@ -1,6 +1,7 @@
 //! The lines that the program prints: what stands in its files, and what is wrong with them.
 #![tactic(auto)]
 
+mod boot_text;
 mod image_text;
 mod refusal;
 mod table_text;
@@ -8,6 +9,7 @@ mod table_text;
 mod tests;
 mod text;
 
+pub use boot_text::{put_booted, put_boots, put_confirmed, put_rejected};
 pub use image_text::{put_image, put_length};
 pub use refusal::Refusal;
 pub use table_text::{put_count, put_rows_lines};

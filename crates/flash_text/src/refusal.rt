@@ -24,4 +24,10 @@ pub enum Refusal {
     Make(MakeNo),
     /// The file is no whole image.
     Image(BadImage),
+    /// No application of the flash is whole, so none boots.
+    NoApplication,
+    /// No entry of the OTA data is active, so there is no application to confirm or to reject.
+    NoOtaApp,
+    /// Without the application of the active entry none would boot, or the one of the same slot.
+    NothingElse,
 }

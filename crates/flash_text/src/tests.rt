@@ -153,6 +153,15 @@ fn of_images<'a>() -> [(Refusal, &'a str); 18] {
     ]
 }
 
+/// The refusals of what boots, and of verdicts.
+fn of_boots<'a>() -> [(Refusal, &'a str); 3] {
+    [
+        (Refusal::NoApplication, "no application"),
+        (Refusal::NoOtaApp, "no ota app"),
+        (Refusal::NothingElse, "nothing else"),
+    ]
+}
+
 /// Whether the line of a refusal is this text.
 fn is_line(alloc: Global, why: Refusal, text: &str) -> Result<bool, Fail> {
     let mut line = Vec::new(alloc);
@@ -171,6 +180,9 @@ fn each_refusal_has_its_line(rt: HostRuntime) -> Result<(), Fail> {
         assert_eq!(rt; is_line(rt.alloc(), why, text)?, true, "{text}");
     }
     for (why, text) in of_images() {
+        assert_eq!(rt; is_line(rt.alloc(), why, text)?, true, "{text}");
+    }
+    for (why, text) in of_boots() {
         assert_eq!(rt; is_line(rt.alloc(), why, text)?, true, "{text}");
     }
     Ok(())

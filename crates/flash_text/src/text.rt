@@ -72,7 +72,7 @@ pub fn put_names(out: &mut Vec<u8>, app: App) -> Result<(), Memory>
 
 /// Appends an application's name.
 #[tactic(auto, unfolding(crate::specs::Text::app_text))]
-fn put_app(out: &mut Vec<u8>, app: App) -> Result<(), Memory>
+pub(crate) fn put_app(out: &mut Vec<u8>, app: App) -> Result<(), Memory>
     ensures ok { OnOk result (out.new.items ≡ out.old.items ++ app_text app) }
 {
     match app {
@@ -119,5 +119,8 @@ fn put_reason(out: &mut Vec<u8>, name: &str, why: Refusal) -> Result<(), Memory>
         Refusal::Plan { line, why } => put_plan(out, line, why),
         Refusal::Make(why) => put_make(out, why),
         Refusal::Image(why) => put_bad_image(out, why),
+        Refusal::NoApplication => put_text(out, "no application"),
+        Refusal::NoOtaApp => put_text(out, "no ota app"),
+        Refusal::NothingElse => put_text(out, "nothing else"),
     }
 }

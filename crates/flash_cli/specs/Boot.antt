@@ -1,0 +1,83 @@
+-- What the command `boot FLASH OUT` comes to.
+use Rattle.std.specs.Prelude.{◌≡◌, ℕ, List, [], ◌∷◌, length, Option, Some, None, Result, Ok, Err}
+use Rattle.nor_device.specs.declared.step.Step.{Step}
+use Rattle.nor_device.specs.Flash.{after_steps}
+use Rattle.partition_table.specs.declared.app.App.{App}
+use Rattle.partition_table.specs.Layout.{Places}
+use Rattle.boot_select.specs.Boots.{entries_in}
+use Rattle.image_verify.specs.Held.{held}
+use Rattle.rollback.specs.Boot.{boot_writes}
+use Rattle.rollback.specs.Boots.{boots_in}
+use Rattle.boot_run.specs.declared.booted.Booted.{Booted}
+use Rattle.boot_run.specs.Rewriting.{rewrites}
+use Rattle.boot_run.specs.Verified.{Starts}
+use Rattle.flash_text.specs.declared.refusal.Refusal.{Refusal}
+use Rattle.flash_text.specs.declared.refusal.Refusal.TheVariants.{NoApplication}
+use Rattle.flash_text.specs.BootText.{booted_lines}
+use Rattle.flash_cli.specs.declared.boot.Started.{Started as CodeStarted}
+use Rattle.flash_cli.specs.Answer.{Answer}
+use Rattle.flash_cli.specs.Laid.{laid}
+
+-- the steps that a boot of a flash makes
+abbrev pub boot_steps : List ℕ → Places → List Step
+boot_steps flash layout = rewrites layout.otadata (boot_writes (entries_in layout flash))
+
+-- a flash that was booted: what was started, how long its image is, how many steps were made before, and
+-- the flash that they leave
+pub record Started : Type 0 where
+  pub app : App
+  pub long : ℕ
+  pub steps : ℕ
+  pub flash : List ℕ
+
+-- the same of the code
+abbrev pub shown_started : CodeStarted → Started
+shown_started started = record {
+  app = started.app;
+  long = started.length;
+  steps = started.steps;
+  flash = started.flash.items;
+}
+
+-- a flash that was booted, of these parts
+abbrev pub started_with : App → ℕ → ℕ → List ℕ → Started
+started_with app long steps flash = record { app = app; long = long; steps = steps; flash = flash }
+
+-- a flash after these steps, of which this was started; refused where nothing is
+abbrev pub started_by : List ℕ → List Step → Option (App × List ℕ) → Result Started Refusal
+started_by flash steps None = Err NoApplication
+started_by flash steps (Some booted) =
+    Ok (started_with booted.0 (length booted.1) (length steps) (after_steps flash steps))
+
+-- what a boot makes of a flash with this layout
+unfoldable pub started_in : List ℕ → Places → Result Started Refusal
+started_in flash layout = started_by flash (boot_steps flash layout) (boots_in held layout flash)
+
+-- what a boot makes of a flash by its layout, where it has one
+abbrev pub started_from : List ℕ → Result Places Refusal → Result Started Refusal
+started_from flash (Ok layout) = started_in flash layout
+started_from flash (Err why) = Err why
+
+-- the answer of the command with a flash that was booted: the file with it, and what was started
+abbrev pub answer_of_started : List ℕ → Result Started Refusal → Result Answer Refusal
+answer_of_started out (Ok started) = Ok (record {
+  text = booted_lines started.app started.long started.steps;
+  puts = (out, started.flash) ∷ [];
+})
+answer_of_started out (Err why) = Err why
+
+-- what the command comes to on a flash
+abbrev pub boot_answer : List ℕ → List ℕ → Result Answer Refusal
+boot_answer flash out = answer_of_started out (started_from flash (laid flash))
+
+-- A boot of a device with this flash: its steps were made, and this was started of which this is told.
+pub record IsStarted (layout : Places) (flash : List ℕ) (now : Option (List ℕ)) (booted : Booted)
+    : Type 0 where
+  pub starts : Starts (boots_in held layout flash) booted.app booted.info
+  pub counted : booted.steps ≡ length (boot_steps flash layout)
+  pub left : now ≡ Some (after_steps flash (boot_steps flash layout))
+
+-- the boot of a device with this flash ended so: by a start, or since nothing boots
+abbrev pub BootEnds : Places → List ℕ → Option (List ℕ) → Result Booted Refusal → Type 0
+BootEnds layout flash now (Ok booted) = IsStarted layout flash now booted
+BootEnds layout flash now (Err why) = (boots_in held layout flash ≡ None) × (why ≡ NoApplication)
