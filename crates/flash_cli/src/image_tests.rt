@@ -295,3 +295,21 @@ fn an_absent_part_has_its_number(rt: HostRuntime) -> Result<(), Fail> {
     );
     Ok(())
 }
+
+#[test]
+fn an_image_is_made_by_two_reads_and_a_put(rt: HostRuntime) -> Result<(), Fail> {
+    let alloc = rt.alloc();
+    for (failing, wanted) in [
+        (3, Status::StoreFault),
+        (4, Status::StoreFault),
+        (5, Status::StoreFault),
+        (6, Status::Done),
+    ] {
+        let mut store = MemStore::new(Vec::new(alloc), Vec::from_slice(alloc, &[failing])?);
+        store.put(alloc, "a.plan", PLAN)?;
+        store.put(alloc, "a.bin", b"\x01\x02\x03\x04".as_slice())?;
+        let (status, _sink) = called(alloc, &["image-make", "a.plan", "A"], &mut store)?;
+        assert_eq!(rt; status, wanted, "call {failing} fails");
+    }
+    Ok(())
+}
