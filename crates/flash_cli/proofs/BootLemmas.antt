@@ -1,5 +1,5 @@
 -- What a boot of a flash comes to, and what boots of it.
-use Rattle.std.proofs.Common.{◌≡◌, ℕ, List, length, Option, Some, None, IfSome, Ok, Err, refl, sym, ap, ◌∙◌, subst}
+use Rattle.std.proofs.Common.{◌≡◌, ℕ, List, Option, Some, None, IfSome, Ok, Err, sym, ap, ◌∙◌, subst}
 use Rattle.nor_device.specs.Flash.{after_steps}
 use Rattle.partition_table.specs.declared.app.App.{App}
 use Rattle.partition_table.specs.Layout.{Places}

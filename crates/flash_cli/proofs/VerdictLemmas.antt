@@ -1,5 +1,5 @@
 -- What a confirmation and a rejection of a flash come to.
-use Rattle.std.proofs.Common.{◌≡◌, ℕ, ◌<◌, Bool, List, length, Option, Some, None, IfSome, Result, Ok, Err, refl, sym, ap, ◌∙◌, subst}
+use Rattle.std.proofs.Common.{◌≡◌, ℕ, ◌<◌, Bool, List, length, Option, Some, None, IfSome, Result, Ok, Err, sym, ap, ◌∙◌, subst}
 use Rattle.nor_device.specs.declared.step.Step.{Step}
 use Rattle.nor_device.specs.declared.nor.StepEnd.{StepEnd}
 use Rattle.nor_device.specs.declared.nor.NorFault.{NorFault}
@@ -21,7 +21,7 @@ use Rattle.boot_run.specs.Rewriting.{rewrites}
 use Rattle.boot_run.specs.Verdict.{Answers, Tells, just_one, rejection, writes_of}
 use Rattle.flash_text.specs.declared.refusal.Refusal.{Refusal}
 use Rattle.flash_cli.specs.Reject.{reject_refusal}
-use Rattle.flash_cli.specs.Verdict.{IsTold, Judged, VerdictEnds, judged_by}
+use Rattle.flash_cli.specs.Verdict.{Judged, VerdictEnds, judged_by}
 
 -- a flash of which this slot was told, with so many steps, and what is left of it
 abbrev pub judged_of : Told → List ℕ → Judged

@@ -2,7 +2,6 @@
 use Rattle.std.specs.Prelude.{◌≡◌, ℕ, List, length, Option, Some, Result, Ok, Err}
 use Rattle.nor_device.specs.Flash.{after_steps}
 use Rattle.partition_table.specs.declared.app.App.{App}
-use Rattle.partition_table.specs.declared.app.App.TheVariants.{Ota}
 use Rattle.partition_table.specs.Layout.{Places}
 use Rattle.boot_select.specs.Boots.{entries_in, names}
 use Rattle.rollback.specs.declared.rewrite.Rewrite.{Rewrite}
