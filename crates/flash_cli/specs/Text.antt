@@ -6,7 +6,8 @@ use Rattle.flash_cli.specs.Command.{rows, joined}
 
 -- the lines of a choice: both entries, and the application that they name
 unfoldable pub choice_text : Choice → List ℕ
-choice_text choice = entry_line 0 choice.first ++ entry_line 1 choice.second ++ names_line choice.app
+choice_text choice =
+    entry_line 0 choice.first ++ entry_line 1 choice.second ++ names_line choice.app
 
 -- the line that says how the program is called: the words of the table
 unfoldable pub usage_line : List ℕ
