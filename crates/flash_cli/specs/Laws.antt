@@ -32,7 +32,8 @@ NoCommandIsUsage = (told put : Option Files) (command : Option Command) (status 
     → (status ≡ StoreFault → IsSome command) → (IsDevices status → ⊥)
     → IsUsageOrUntold status
 
--- a call that ends whole has the status, the files and the text that its words come to in these files
+-- a call that ends whole has the status, the files and the text that its words come to in these
+-- files
 pub record EndsAsIn (files : Files) (command : Option Command) (status : Status)
     (put : Option Files) (before after : Option (List ℕ)) : Type 0 where
   pub ends : status ≡ (outcome_in files command).status
@@ -71,8 +72,8 @@ MadeIsWhole = (files : Files) (plan out : List ℕ)
 abbrev pub slot_of : Row → List ℕ → List ℕ
 slot_of row flash = take row.size (drop row.offset flash)
 
--- A flash is as it is written at a factory: it has a layout by its own table, the factory partition holds
--- this image, the OTA data name factory, and it boots with this image.
+-- A flash is as it is written at a factory: it has a layout by its own table, the factory partition
+-- holds this image, the OTA data name factory, and it boots with this image.
 pub record IsFactoryFlash (flash image : List ℕ) : Type 0 where
   pub layout : Places
   pub laid : layout_in flash ≡ Ok layout

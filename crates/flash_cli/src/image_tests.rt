@@ -102,7 +102,8 @@ fn changed(alloc: Global, at: usize, bytes: &[u8]) -> Result<Vec<u8>, AllocError
     Ok(image)
 }
 
-/// A store with these files, with the image less its last byte, and with the image and one byte more.
+/// A store with these files, with the image less its last byte, and with the image and one byte
+/// more.
 pub(crate) fn store_of_all(alloc: Global) -> Result<MemStore, PutFault> {
     let mut store = MemStore::new(Vec::new(alloc), Vec::new(alloc));
     store.put(alloc, "t.csv", SOURCE.as_bytes())?;
@@ -293,5 +294,23 @@ fn an_absent_part_has_its_number(rt: HostRuntime) -> Result<(), Fail> {
         Status::Refused(Refusal::Absent { file: 3 }),
         "behind plan and two parts"
     );
+    Ok(())
+}
+
+#[test]
+fn an_image_is_made_by_two_reads_and_a_put(rt: HostRuntime) -> Result<(), Fail> {
+    let alloc = rt.alloc();
+    for (failing, wanted) in [
+        (3, Status::StoreFault),
+        (4, Status::StoreFault),
+        (5, Status::StoreFault),
+        (6, Status::Done),
+    ] {
+        let mut store = MemStore::new(Vec::new(alloc), Vec::from_slice(alloc, &[failing])?);
+        store.put(alloc, "a.plan", PLAN)?;
+        store.put(alloc, "a.bin", b"\x01\x02\x03\x04".as_slice())?;
+        let (status, _sink) = called(alloc, &["image-make", "a.plan", "A"], &mut store)?;
+        assert_eq!(rt; status, wanted, "call {failing} fails");
+    }
     Ok(())
 }
