@@ -150,6 +150,10 @@ told_confirmed layout size e0 e1 (Some flash) new (Ok (Ok told)) placed sized fi
     (writes_of (one_of (confirm_of (first i) (second i))))))) in
     let here = subst (λ a. Answers layout.otadata (named_of layout a f1) (one_of (confirm_of a f1)) (Ok told)) first
     (subst (λ b. Answers layout.otadata (named_of layout e0 b) (one_of (confirm_of e0 b)) (Ok told)) second answers) in
-    λ image holds. (left, is, confirmed_told layout flash told
-    (subst (IsPlaced layout) (sym (sized flash refl)) placed)
-    (subst (λ a. IsStored a) first one) (subst (λ b. IsStored b) second two) here image holds)
+    λ image holds. (
+      left,
+      is,
+      confirmed_told layout flash told
+          (subst (IsPlaced layout) (sym (sized flash refl)) placed)
+          (subst (λ a. IsStored a) first one) (subst (λ b. IsStored b) second two) here image holds,
+    )

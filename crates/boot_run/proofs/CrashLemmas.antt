@@ -68,9 +68,18 @@ boot_restated layout size flash (w ∷ v ∷ []) placed are =
     let short = label_short layout flash w.sector in omega arith) in
     let other = left_other layout flash (after_steps flash steps) w placed.aligned are.0.two label (left_end flash steps) in
     let same : entries_in layout (after_steps flash steps) v.sector ≡ entries_in layout flash v.sector =
-    subst (λ y. entries_in layout (after_steps flash steps) y ≡ entries_in layout flash y) (sym are.2) other in
-    (are.0, (record { two = are.1.two; state = are.1.state; fits = are.1.fits;
-    is = are.1.is ∙ ap (restated are.1.state v.sector) (sym same) }, tt))
+    subst (λ y. entries_in layout (after_steps flash steps) y ≡ entries_in layout flash y) (sym are.2) other in (
+      are.0,
+      (
+        record {
+          two = are.1.two;
+          state = are.1.state;
+          fits = are.1.fits;
+          is = are.1.is ∙ ap (restated are.1.state v.sector) (sym same);
+        },
+        tt,
+      ),
+    )
 boot_restated layout size flash (w ∷ v ∷ u ∷ ws) placed are = absurd are
 
 -- of what is left of rewrites boots what a verdict on one of them gives

@@ -143,20 +143,26 @@ pub left_crash : (layout : Places) (size : ℕ) (writes : List ℕ → List Rewr
     → IfSome old (λ flash. made ≡ writes flash) → IsLeftOf (rewrites layout.otadata made) old new
     → IsLeftByVerdicts layout writes old new
 left_crash layout size writes made None new placed are same left = tt
-left_crash layout size writes made (Some flash) new placed are same left =
-    (left.0, left.1, left_verdicts layout size flash left.0 (writes flash) placed
-    (boot_restated layout size flash (writes flash) placed (are flash))
-    (subst (λ ws. LeftAfter flash (rewrites layout.otadata ws) left.0) same left.2))
+left_crash layout size writes made (Some flash) new placed are same left = (
+  left.0,
+  left.1,
+  left_verdicts layout size flash left.0 (writes flash) placed
+      (boot_restated layout size flash (writes flash) placed (are flash))
+      (subst (λ ws. LeftAfter flash (rewrites layout.otadata ws) left.0) same left.2),
+)
 
 -- and of rewrites that did not begin
 pub unread_crash : (layout : Places) (size : ℕ) (writes : List ℕ → List Rewrite) (old new : Option (List ℕ))
     → IsPlaced layout size → ((flash : List ℕ) → AreRewrites (entries_in layout flash) (writes flash))
     → new ≡ old → IsLeftByVerdicts layout writes old new
 unread_crash layout size writes None new placed are same = tt
-unread_crash layout size writes (Some flash) new placed are same =
-    (flash, same, left_verdicts layout size flash flash (writes flash) placed
-    (boot_restated layout size flash (writes flash) placed (are flash))
-    (left_begin flash (rewrites layout.otadata (writes flash))))
+unread_crash layout size writes (Some flash) new placed are same = (
+  flash,
+  same,
+  left_verdicts layout size flash flash (writes flash) placed
+      (boot_restated layout size flash (writes flash) placed (are flash))
+      (left_begin flash (rewrites layout.otadata (writes flash))),
+)
 
 -- of the rewrites by the entries that were read
 pub read_crash : (layout : Places) (size : ℕ) (writes : (ℕ → Entry) → List Rewrite) (e0 e1 : Entry)
@@ -213,5 +219,9 @@ pub seen_steps : (layout : Places) (flash : List ℕ) (e0 e1 : Entry) (writes : 
     → n ≡ length writes → 2 * n ≡ length (rewrites layout.otadata (boot_writes (entries_in layout flash)))
 seen_steps layout flash e0 e1 writes n zeroth other is long =
     let same = is ∙ writes_same (entries_in layout flash) (sectors e0 e1) zeroth other in
-    omega (arith, long, ap (λ (l : List Rewrite). length l) same,
-    length-rewrites layout.otadata (boot_writes (entries_in layout flash)))
+    omega (
+      arith,
+      long,
+      ap (λ (l : List Rewrite). length l) same,
+      length-rewrites layout.otadata (boot_writes (entries_in layout flash)),
+    )

@@ -93,9 +93,10 @@ pub boot_short : (es : ℕ → Entry) → ((y : ℕ) → y < 2 → length (es y)
 boot_short es short [] are = tt
 boot_short es short (w ∷ []) are =
     ((are.two, let same = ap length (restated_label es w are) in let less = short w.sector are.two in omega arith), tt)
-boot_short es short (w ∷ v ∷ []) are =
-    ((are.0.two, let same = ap length (restated_label es w are.0) in let less = short w.sector are.0.two in omega arith),
-    ((are.1.two, let same = ap length (restated_label es v are.1) in let less = short v.sector are.1.two in omega arith), tt))
+boot_short es short (w ∷ v ∷ []) are = (
+  (are.0.two, let same = ap length (restated_label es w are.0) in let less = short w.sector are.0.two in omega arith),
+  ((are.1.two, let same = ap length (restated_label es v are.1) in let less = short v.sector are.1.two in omega arith), tt),
+)
 boot_short es short (w ∷ v ∷ u ∷ ws) are = absurd are
 
 -- each is of one of two sectors

@@ -64,10 +64,7 @@ fn confirmed(found: Result<Result<Told, NoOtaApp>, NorFault>) -> Result<Told, Co
 }
 
 /// A confirmation; refused inside where no entry is active.
-fn confirm_on<D: Nor>(
-    device: &mut D,
-    layout: &Layout,
-) -> Result<Result<Told, NoOtaApp>, NorFault>
+fn confirm_on<D: Nor>(device: &mut D, layout: &Layout) -> Result<Result<Told, NoOtaApp>, NorFault>
     requires idle { D.running device.old ≡ None }
     requires placed { IsPlaced layout.now (D.size device.old) }
     requires small { D.size device.old < 2 ^ 32 }

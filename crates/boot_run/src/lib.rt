@@ -11,6 +11,8 @@ mod laws;
 mod previewing;
 mod rejecting;
 mod start;
+#[cfg(test)]
+mod tests;
 mod told;
 mod verify;
 mod whole;

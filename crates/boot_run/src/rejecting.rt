@@ -63,10 +63,7 @@ fn rejected(found: Result<Result<Told, RejectNo>, NorFault>) -> Result<Told, Rej
 }
 
 /// A rejection; refused inside for the entries or the images.
-fn reject_on<D: Nor>(
-    device: &mut D,
-    layout: &Layout,
-) -> Result<Result<Told, RejectNo>, NorFault>
+fn reject_on<D: Nor>(device: &mut D, layout: &Layout) -> Result<Result<Told, RejectNo>, NorFault>
     requires idle { D.running device.old ≡ None }
     requires placed { IsPlaced layout.now (D.size device.old) }
     requires small { D.size device.old < 2 ^ 32 }

@@ -60,5 +60,9 @@ returns-in-Some-clause-boots g c =
 pub returns-in-Some-clause-steps : goal.returns-in-Some-clause-steps
 returns-in-Some-clause-steps g c =
     let es = sectors c.args.e0 c.args.e1 in
-    omega (arith, c.len.ensures.value, ap (λ (l : List Rewrite). length l) c.boot_writes-writes.ensures.exact,
-    length-rewrites c.args.layout.now.otadata (boot_writes es))
+    omega (
+      arith,
+      c.len.ensures.value,
+      ap (λ (l : List Rewrite). length l) c.boot_writes-writes.ensures.exact,
+      length-rewrites c.args.layout.now.otadata (boot_writes es),
+    )
