@@ -181,8 +181,10 @@ module _ (size : ℕ) (rows : List Row) (layout : Places) (image : List ℕ) (li
       let none : (sector : ℕ) → sector < 2 → vote (es sector) ≡ None =
       λ sector low. invalid_vote (es sector) (invalid sector low) in
       boots_at layout images es 0 (omega arith)
-      ∙ ap (λ v. first_held images (candidates layout (named_seq layout (pick v (vote (es 1)))))) (none 0 (omega arith))
-      ∙ ap (λ v. first_held images (candidates layout (named_seq layout (pick None v)))) (none 1 (omega arith))
+      ∙ ap (λ v. first_held images (candidates layout (named_seq layout (pick v (vote (es 1))))))
+      (none 0 (omega arith))
+      ∙ ap (λ v. first_held images (candidates layout (named_seq layout (pick None v))))
+      (none 1 (omega arith))
       ∙ named_boots layout images None Factory image refl holds
 
   -- so it is one as it is written at a factory
