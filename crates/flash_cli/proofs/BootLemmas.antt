@@ -1,5 +1,5 @@
 -- What a boot of a flash comes to, and what boots of it.
-use Rattle.std.proofs.Common.{◌≡◌, ℕ, List, length, Option, Some, None, IfSome, Ok, Err, refl, sym, ap, ◌∙◌, subst}
+use Rattle.std.proofs.Common.{◌≡◌, ℕ, List, Option, Some, None, IfSome, Ok, Err, sym, ap, ◌∙◌, subst}
 use Rattle.nor_device.specs.Flash.{after_steps}
 use Rattle.partition_table.specs.declared.app.App.{App}
 use Rattle.partition_table.specs.Layout.{Places}
@@ -14,7 +14,8 @@ use Rattle.flash_cli.specs.Choice.{choice_by, choice_in, choice_with}
 use Rattle.flash_cli.specs.Boot.{BootEnds, IsStarted, boot_steps, started_by, started_in, started_with}
 
 -- the two bytes of a device that tells them are the same
-same_bytes : (told : Option (List ℕ)) (one two : List ℕ) → told ≡ Some one → told ≡ Some two → one ≡ two
+same_bytes : (told : Option (List ℕ)) (one two : List ℕ) → told ≡ Some one → told ≡ Some two
+    → one ≡ two
 same_bytes told one two is also = cc
 
 -- a flash of which this application boots chooses it
@@ -41,15 +42,19 @@ is_started flash left layout now booted started now_is =
     let same : after_steps flash (boot_steps flash layout) ≡ left =
     same_bytes now (after_steps flash (boot_steps flash layout)) left started.left now_is in
     ap (started_by flash (boot_steps flash layout)) started.starts.is
-    ∙ (λ i. Ok (started_with booted.app ((sym started.starts.told.long) i) ((sym started.counted) i) (same i)))
+    ∙ (λ i. Ok (started_with booted.app ((sym started.starts.told.long) i)
+    ((sym started.counted) i) (same i)))
 
 -- so where the device told this flash
-pub boot_started : (flash left : List ℕ) (layout : Places) (told now : Option (List ℕ)) (booted : Booted)
-    → told ≡ Some flash → IfSome told (λ bytes. BootEnds layout bytes now (Ok booted)) → now ≡ Some left
+pub boot_started : (flash left : List ℕ) (layout : Places) (told now : Option (List ℕ))
+    (booted : Booted)
+    → told ≡ Some flash → IfSome told (λ bytes. BootEnds layout bytes now (Ok booted))
+    → now ≡ Some left
     → started_in flash layout ≡ Ok (started_with booted.app booted.info.length booted.steps left)
 boot_started flash left layout told now booted told_is ends now_is =
     is_started flash left layout now booted
-    (subst (λ (o : Option (List ℕ)). IfSome o (λ bytes. BootEnds layout bytes now (Ok booted))) told_is ends) now_is
+    (subst (λ (o : Option (List ℕ)). IfSome o (λ bytes. BootEnds layout bytes now (Ok booted)))
+    told_is ends) now_is
 
 -- a boot is refused where nothing boots
 is_refused : (flash : List ℕ) (layout : Places) (why : Refusal) → boots_in held layout flash ≡ None
@@ -62,5 +67,6 @@ pub boot_refused : (flash : List ℕ) (layout : Places) (told now : Option (List
     → told ≡ Some flash → IfSome told (λ bytes. BootEnds layout bytes now (Err why))
     → started_in flash layout ≡ Err why
 boot_refused flash layout told now why told_is ends =
-    let ended = subst (λ (o : Option (List ℕ)). IfSome o (λ bytes. BootEnds layout bytes now (Err why))) told_is ends in
+    let ended = subst (λ (o : Option (List ℕ)).
+    IfSome o (λ bytes. BootEnds layout bytes now (Err why))) told_is ends in
     is_refused flash layout why ended.0 ended.1

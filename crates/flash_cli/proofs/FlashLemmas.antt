@@ -19,6 +19,12 @@ use Rattle.partition_table.proofs.RowLemmas.{bytes-all}
 use Rattle.partition_table.proofs.TableLemmas.{table_of-means, table_of-text, table_text-means}
 use Rattle.partition_table.proofs.LayoutLemmas.{layout_of-means, placed}
 use Rattle.boot_select.specs.Choice.{named_by, named_of}
+use Rattle.boot_select.specs.Boots.{entries_in, first_held, images_in}
+use Rattle.boot_select.specs.Candidates.{candidates}
+use Rattle.rollback.specs.Boots.{boots_in}
+use Rattle.rollback.proofs.VoteLemmas.{named_seq, pick, vote}
+use Rattle.rollback.proofs.ChanceLemmas.{boots_at, invalid_vote}
+use Rattle.rollback.proofs.PairLemmas.{named_boots}
 use Rattle.image_layout.specs.Whole.{Whole}
 use Rattle.image_verify.specs.declared.bad.BadImage.{BadImage}
 use Rattle.image_verify.specs.Bad.{bad}
@@ -167,6 +173,20 @@ module _ (size : ℕ) (rows : List Row) (layout : Places) (image : List ℕ) (li
       (omega (arith, length-drop layout.factory.offset flash, length-flash, end)) in
       held_from slot image begins (subst (Whole image) (sym wide) whole)
 
+  -- with it the factory application boots, since neither entry has a vote
+  boots : boots_in held layout flash ≡ Some (Factory, image)
+  boots =
+      let images = images_in held layout flash in
+      let es = entries_in layout flash in
+      let none : (sector : ℕ) → sector < 2 → vote (es sector) ≡ None =
+      λ sector low. invalid_vote (es sector) (invalid sector low) in
+      boots_at layout images es 0 (omega arith)
+      ∙ ap (λ v. first_held images (candidates layout (named_seq layout (pick v (vote (es 1))))))
+      (none 0 (omega arith))
+      ∙ ap (λ v. first_held images (candidates layout (named_seq layout (pick None v))))
+      (none 1 (omega arith))
+      ∙ named_boots layout images None Factory image refl holds
+
   -- so it is one as it is written at a factory
   factory_flash : layout_in flash ≡ Ok layout → IsFactoryFlash flash image
   factory_flash laid = record {
@@ -174,6 +194,7 @@ module _ (size : ℕ) (rows : List Row) (layout : Places) (image : List ℕ) (li
     laid = laid;
     holds = holds;
     named = names_factory layout _ _ (invalid 0 (omega arith)) (invalid 1 (omega arith));
+    boots = boots;
   }
 
   -- by its own table it has this layout

@@ -1,5 +1,5 @@
 -- What a confirmation and a rejection of a flash come to.
-use Rattle.std.proofs.Common.{◌≡◌, ℕ, ◌<◌, Bool, List, length, Option, Some, None, IfSome, Result, Ok, Err, refl, sym, ap, ◌∙◌, subst}
+use Rattle.std.proofs.Common.{◌≡◌, ℕ, ◌<◌, Bool, List, length, Option, Some, None, IfSome, Result, Ok, Err, sym, ap, ◌∙◌, subst}
 use Rattle.nor_device.specs.declared.step.Step.{Step}
 use Rattle.nor_device.specs.declared.nor.StepEnd.{StepEnd}
 use Rattle.nor_device.specs.declared.nor.NorFault.{NorFault}
@@ -21,20 +21,21 @@ use Rattle.boot_run.specs.Rewriting.{rewrites}
 use Rattle.boot_run.specs.Verdict.{Answers, Tells, just_one, rejection, writes_of}
 use Rattle.flash_text.specs.declared.refusal.Refusal.{Refusal}
 use Rattle.flash_cli.specs.Reject.{reject_refusal}
-use Rattle.flash_cli.specs.Verdict.{IsTold, Judged, VerdictEnds, judged_by}
+use Rattle.flash_cli.specs.Verdict.{Judged, VerdictEnds, judged_by}
 
 -- a flash of which this slot was told, with so many steps, and what is left of it
 abbrev pub judged_of : Told → List ℕ → Judged
 judged_of told left = record { app = Ota told.slot; steps = told.steps; flash = left }
 
 -- the two bytes of a device that tells them are the same
-same_bytes : (told : Option (List ℕ)) (one two : List ℕ) → told ≡ Some one → told ≡ Some two → one ≡ two
+same_bytes : (told : Option (List ℕ)) (one two : List ℕ) → told ≡ Some one → told ≡ Some two
+    → one ≡ two
 same_bytes told one two is also = cc
 
 module _ {E : Type 0} (refusal : E → Refusal) (flash : List ℕ) (layout : Places) where
   -- what was told on a device with this flash is what comes of the flash
-  ends_judged : (left : List ℕ) (now : Option (List ℕ)) (made : Result (List Rewrite) E) (told : Told)
-      → VerdictEnds refusal layout flash now made (Ok told) → now ≡ Some left
+  ends_judged : (left : List ℕ) (now : Option (List ℕ)) (made : Result (List Rewrite) E)
+      (told : Told) → VerdictEnds refusal layout flash now made (Ok told) → now ≡ Some left
       → judged_by refusal flash layout made ≡ Ok (judged_of told left)
   ends_judged left now (Ok writes) told ends now_is =
       let same : after_steps flash (rewrites layout.otadata writes) ≡ left =
@@ -44,19 +45,22 @@ module _ {E : Type 0} (refusal : E → Refusal) (flash : List ℕ) (layout : Pla
 
   -- and so is a refusal
   ends_refused : (now : Option (List ℕ)) (made : Result (List Rewrite) E) (why : Refusal)
-      → VerdictEnds refusal layout flash now made (Err why) → judged_by refusal flash layout made ≡ Err why
+      → VerdictEnds refusal layout flash now made (Err why)
+      → judged_by refusal flash layout made ≡ Err why
   ends_refused now (Ok writes) why ends = absurd ends
   ends_refused now (Err reason) why ends = ap Err (sym ends)
 
-module _ {E : Type 0} (refusal : E → Refusal) (layout : Places) (made : List ℕ → Result (List Rewrite) E)
-    (flash : List ℕ) (told : Option (List ℕ)) (told_is : told ≡ Some flash) where
+module _ {E : Type 0} (refusal : E → Refusal) (layout : Places)
+    (made : List ℕ → Result (List Rewrite) E) (flash : List ℕ) (told : Option (List ℕ)) (told_is : told ≡ Some flash) where
   -- so where the device told this flash
   pub verdict_judged : (left : List ℕ) (now : Option (List ℕ)) (answer : Told)
-      → IfSome told (λ bytes. VerdictEnds refusal layout bytes now (made bytes) (Ok answer)) → now ≡ Some left
+      → IfSome told (λ bytes. VerdictEnds refusal layout bytes now (made bytes) (Ok answer))
+      → now ≡ Some left
       → judged_by refusal flash layout (made flash) ≡ Ok (judged_of answer left)
   verdict_judged left now answer ends now_is =
       ends_judged refusal flash layout left now (made flash) answer
-      (subst (λ (o : Option (List ℕ)). IfSome o (λ bytes. VerdictEnds refusal layout bytes now (made bytes) (Ok answer)))
+      (subst (λ (o : Option (List ℕ)).
+      IfSome o (λ bytes. VerdictEnds refusal layout bytes now (made bytes) (Ok answer)))
       told_is ends) now_is
 
   pub verdict_refused : (now : Option (List ℕ)) (why : Refusal)
@@ -64,7 +68,8 @@ module _ {E : Type 0} (refusal : E → Refusal) (layout : Places) (made : List �
       → judged_by refusal flash layout (made flash) ≡ Err why
   verdict_refused now why ends =
       ends_refused refusal flash layout now (made flash) why
-      (subst (λ (o : Option (List ℕ)). IfSome o (λ bytes. VerdictEnds refusal layout bytes now (made bytes) (Err why)))
+      (subst (λ (o : Option (List ℕ)).
+      IfSome o (λ bytes. VerdictEnds refusal layout bytes now (made bytes) (Err why)))
       told_is ends)
 
 -- the answer of a rejection as one of the command
@@ -85,14 +90,17 @@ answer_ends layout flash now entries (Ok writes) (Ok told) read left answers = r
 }
 answer_ends layout flash now entries (Ok writes) (Err why) read left answers = absurd answers
 answer_ends layout flash now entries (Err reason) (Ok told) read left answers = absurd answers
-answer_ends layout flash now entries (Err reason) (Err why) read left answers = ap reject_refusal answers
+answer_ends layout flash now entries (Err reason) (Err why) read left answers =
+    ap reject_refusal answers
 
 -- truth values that tell which applications are whole give the rejection of the flash
 rejection_is : (layout : Places) (flash : List ℕ) (P : (ℕ → Entry) → (App → Bool) → Type 0)
     (of : OfWhole layout (Some flash) P) → 0 < length layout.slots
-    → rejection layout of.whole of.entries ≡ rejection layout (whole_in layout flash) (entries_in layout flash)
+    → rejection layout of.whole of.entries
+    ≡ rejection layout (whole_in layout flash) (entries_in layout flash)
 rejection_is layout flash P of some =
-    ap just_one (reject-told layout of.whole (images_in held layout flash) (of.entries 0) (of.entries 1) of.tells some)
+    ap just_one (reject-told layout of.whole (images_in held layout flash) (of.entries 0)
+    (of.entries 1) of.tells some)
     ∙ (λ i. just_one (reject_of layout (whole_in layout flash) (of.read i 0) (of.read i 1)))
 
 module _ {S : Type 0} (may_end : S → ℕ → StepEnd → Type 0)

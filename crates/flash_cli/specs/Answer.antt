@@ -11,8 +11,8 @@ use Rattle.flash_cli.specs.declared.status.Status.TheVariants.{Usage, Refused}
 use Rattle.flash_text.specs.Text.{refusal_line}
 use Rattle.flash_cli.specs.Text.{usage_line}
 
--- what a command comes to: the text that it pushes, and the files that it puts, in order, each a name
--- with bytes
+-- what a command comes to: the text that it pushes, and the files that it puts, in order, each a
+-- name with bytes
 pub record Answer : Type 0 where
   pub text : List ℕ
   pub puts : List (List ℕ × List ℕ)

@@ -22,8 +22,8 @@ use Rattle.flash_cli.specs.Laid.{laid}
 abbrev pub boot_steps : List ℕ → Places → List Step
 boot_steps flash layout = rewrites layout.otadata (boot_writes (entries_in layout flash))
 
--- a flash that was booted: what was started, how long its image is, how many steps were made before, and
--- the flash that they leave
+-- a flash that was booted: what was started, how long its image is, how many steps were made
+-- before, and the flash that they leave
 pub record Started : Type 0 where
   pub app : App
   pub long : ℕ
@@ -70,7 +70,8 @@ answer_of_started out (Err why) = Err why
 abbrev pub boot_answer : List ℕ → List ℕ → Result Answer Refusal
 boot_answer flash out = answer_of_started out (started_from flash (laid flash))
 
--- A boot of a device with this flash: its steps were made, and this was started of which this is told.
+-- A boot of a device with this flash: its steps were made, and this was started of which this is
+-- told.
 pub record IsStarted (layout : Places) (flash : List ℕ) (now : Option (List ℕ)) (booted : Booted)
     : Type 0 where
   pub starts : Starts (boots_in held layout flash) booted.app booted.info

@@ -11,8 +11,8 @@ use Rattle.flash_text.specs.declared.refusal.Refusal.TheVariants.{NoApplication}
 use Rattle.flash_cli.specs.declared.choice.Choice.{Choice}
 use Rattle.flash_cli.specs.Laid.{laid}
 
--- the entries of a flash with this layout, what they name, and that this application boots, whose image is
--- so long
+-- the entries of a flash with this layout, what they name, and that this application boots, whose
+-- image is so long
 unfoldable pub choice_with : List ℕ → Places → App → ℕ → Choice
 choice_with flash layout boots long =
     let first = entry_in flash layout.otadata 0 in

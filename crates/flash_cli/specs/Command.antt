@@ -9,8 +9,8 @@ use Rattle.flash_cli.specs.declared.command.Kind.TheVariants.{Choose as ChooseKi
 use Rattle.flash_cli.specs.declared.command.Command.{Command as Parsed}
 use Rattle.flash_cli.specs.declared.command.Command.TheVariants.{Choose as ParsedChoose, Boot as ParsedBoot, Confirm as ParsedConfirm, Reject as ParsedReject, ImageMake as ParsedImageMake, ImageCheck as ParsedImageCheck, TableMake as ParsedTableMake, TableShow as ParsedTableShow, FlashMake as ParsedFlashMake}
 
--- a row of the table of commands: the word, how many names stand after it, the words of the options that
--- may stand after these, and whether it starts cores
+-- a row of the table of commands: the word, how many names stand after it, the words of the options
+-- that may stand after these, and whether it starts cores
 pub record Row : Type 0 where
   pub kind : Kind
   pub word : List ℕ
@@ -59,8 +59,8 @@ pub data Command : Type 0 where
   TableShow : List ℕ → Command
   FlashMake : List ℕ → List ℕ → ℕ → List ℕ → Command
 
--- the command of this kind with these names, where they are as many as it has, and what is to be a number
--- is one
+-- the command of this kind with these names, where they are as many as it has, and what is to be a
+-- number is one
 abbrev pub made : Kind → List (List ℕ) → Option Command
 made ChooseKind (flash ∷ []) = Some (Choose flash)
 made ChooseKind _ = None
@@ -105,8 +105,8 @@ has_option option [] = false
 has_option option (word ∷ []) = false
 has_option option (word ∷ value ∷ more) = bytes_eq word option || has_option option more
 
--- whether words are options with their values: each is one of these, a value stands after it, and it
--- comes once
+-- whether words are options with their values: each is one of these, a value stands after it, and
+-- it comes once
 abbrev pub are_options : List (List ℕ) → List (List ℕ) → Bool
 are_options options [] = true
 are_options options (word ∷ []) = false
@@ -117,10 +117,11 @@ are_options options (word ∷ value ∷ more) =
 abbrev pub fits : Row → List (List ℕ) → Bool
 fits row words =
     if nat_lt (length words) row.names then false
-    else list_all is_file_name (take row.names words) && are_options row.options (drop row.names words)
+    else list_all is_file_name (take row.names words)
+    && are_options row.options (drop row.names words)
 
--- the command that words make after the word of a row, where there is such a row, it starts no cores and
--- they fit it
+-- the command that words make after the word of a row, where there is such a row, it starts no
+-- cores and they fit it
 abbrev pub made_by : Option Row → List (List ℕ) → Option Command
 made_by None words = None
 made_by (Some row) words =

@@ -21,9 +21,11 @@ erased_flash size = replicate size 0xFF
 abbrev pub with_at : ℕ → List ℕ → List ℕ → List ℕ
 with_at at bytes flash = take at flash ++ bytes ++ drop (at + length bytes) flash
 
--- an erased flash of so many bytes, with the table of these rows at 0x8000 and an image at this place
+-- an erased flash of so many bytes, with the table of these rows at 0x8000 and an image at this
+-- place
 unfoldable pub flash_with : ℕ → List Row → ℕ → List ℕ → List ℕ
-flash_with size rows at image = with_at at image (with_at 0x8000 (table_text rows) (erased_flash size))
+flash_with size rows at image =
+    with_at at image (with_at 0x8000 (table_text rows) (erased_flash size))
 
 -- a flash, unless the image shows a fault
 abbrev pub unless_bad : Option BadImage → List ℕ → Result (List ℕ) Refusal
@@ -36,7 +38,8 @@ flash_in_factory size rows factory image =
     unless_bad (bad factory.size image) (flash_with size rows factory.offset image)
 
 -- the flash by the layout of its rows, or why there is none
-abbrev pub flash_by_layout : ℕ → List Row → Result Places TableBad → List ℕ → Result (List ℕ) Refusal
+abbrev pub flash_by_layout : ℕ → List Row → Result Places TableBad → List ℕ
+    → Result (List ℕ) Refusal
 flash_by_layout size rows (Ok layout) image = flash_in_factory size rows layout.factory image
 flash_by_layout size rows (Err why) image = Err (Table why)
 
@@ -45,11 +48,12 @@ abbrev pub flash_by_rows : ℕ → Result (List Row) Refusal → List ℕ → Re
 flash_by_rows size (Ok rows) image = flash_by_layout size rows (layout_of rows) image
 flash_by_rows size (Err why) image = Err why
 
--- the flash of so many bytes with the table of a table file and an image in factory, or the first reason
--- why there is none: its size, the table file's length, the table, its layout, the image
+-- the flash of so many bytes with the table of a table file and an image in factory, or the first
+-- reason why there is none: its size, the table file's length, the table, its layout, the image
 unfoldable pub made_flash : List ℕ → List ℕ → ℕ → Result (List ℕ) Refusal
 made_flash table image size =
-    if is_flash_size size then flash_by_rows size (file_rows table size) image else Err (FlashSize size)
+    if is_flash_size size then flash_by_rows size (file_rows table size) image
+    else Err (FlashSize size)
 
 -- the answer of the command with a flash: the file with it, and how long the image is
 abbrev pub answer_of_flash : List ℕ → List ℕ → Result (List ℕ) Refusal → Result Answer Refusal

@@ -13,7 +13,8 @@ use Rattle.flash_cli.specs.Answer.{Answer, text_only}
 -- the lines of a whole image
 unfoldable pub lines_of_image : List ℕ → List ℕ
 lines_of_image image =
-    image_lines (segments_of image) (length image) ((header_of image).flag == 1) (description_of image)
+    image_lines (segments_of image) (length image) ((header_of image).flag == 1)
+    (description_of image)
 
 -- the answer of the command on a file with this fault, or without one
 abbrev pub answer_of_check : Option BadImage → List ℕ → Result Answer Refusal

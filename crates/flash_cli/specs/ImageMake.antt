@@ -13,7 +13,8 @@ use Rattle.flash_text.specs.ImageText.{length_line}
 use Rattle.flash_cli.specs.Answer.{Answer}
 use Rattle.flash_cli.specs.Reading.{Reading, Ended, asks_all}
 
--- the refusal of a plan. That memory ran out is none of a plan's, and what stands there plays no part
+-- the refusal of a plan. That memory ran out is none of a plan's, and what stands there plays no
+-- part
 abbrev pub plan_refusal : PlanNo → Refusal
 plan_refusal (no_plan.Bad line reason) = Plan line reason
 plan_refusal no_plan.Memory = Plan 0 why.Word

@@ -8,6 +8,7 @@ use Rattle.partition_table.specs.declared.row.Row.{Row}
 use Rattle.partition_table.specs.Layout.{Places, layout_in}
 use Rattle.boot_select.specs.Boots.{entries_in, names}
 use Rattle.image_verify.specs.Held.{held}
+use Rattle.rollback.specs.Boots.{boots_in}
 use Rattle.flash_text.specs.declared.refusal.Refusal.{Refusal}
 use Rattle.flash_cli.specs.declared.status.Status.{Status}
 use Rattle.flash_cli.specs.declared.status.Status.TheVariants.{Done, Usage, Refused, StoreFault, SinkFault}
@@ -31,7 +32,8 @@ NoCommandIsUsage = (told put : Option Files) (command : Option Command) (status 
     → (status ≡ StoreFault → IsSome command) → (IsDevices status → ⊥)
     → IsUsageOrUntold status
 
--- a call that ends whole has the status, the files and the text that its words come to in these files
+-- a call that ends whole has the status, the files and the text that its words come to in these
+-- files
 pub record EndsAsIn (files : Files) (command : Option Command) (status : Status)
     (put : Option Files) (before after : Option (List ℕ)) : Type 0 where
   pub ends : status ≡ (outcome_in files command).status
@@ -70,13 +72,14 @@ MadeIsWhole = (files : Files) (plan out : List ℕ)
 abbrev pub slot_of : Row → List ℕ → List ℕ
 slot_of row flash = take row.size (drop row.offset flash)
 
--- A flash is as it is written at a factory: it has a layout by its own table, the factory partition holds
--- this image, and the OTA data name factory.
+-- A flash is as it is written at a factory: it has a layout by its own table, the factory partition
+-- holds this image, the OTA data name factory, and it boots with this image.
 pub record IsFactoryFlash (flash image : List ℕ) : Type 0 where
   pub layout : Places
   pub laid : layout_in flash ≡ Ok layout
   pub holds : held (slot_of layout.factory flash) ≡ Some image
   pub named : names layout (entries_in layout flash) ≡ Factory
+  pub boots : boots_in held layout flash ≡ Some (Factory, image)
 
 -- the flash that is made of the bytes of a table file and an image is one
 abbrev pub MadeIsFactoryFlash : Type 0

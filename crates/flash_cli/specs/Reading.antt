@@ -8,8 +8,8 @@ pub data Reading (A : Type 0) : Type 0 where
   Ended : A → Reading A
   Asks : List ℕ → (List ℕ → Reading A) → Reading A
 
--- a reading that asks for the files of these names in order, behind others that were read, and goes on by
--- the bytes of all
+-- a reading that asks for the files of these names in order, behind others that were read, and goes
+-- on by the bytes of all
 abbrev pub asks_all : {A : Type 0} → List (List ℕ) → List (List ℕ) → (List (List ℕ) → Reading A)
     → Reading A
 asks_all [] read next = next read
@@ -24,8 +24,9 @@ pub record Absence : Type 0 where
 abbrev pub TellsAnswer : Option Files → List ℕ → Option (List ℕ) → Type 0
 TellsAnswer told name answer = IfSome told (λ files. get files name ≡ answer)
 
--- A reading, of which this many files were read, comes to its value or to the first file that is absent.
--- The files are those of the store where it tells them. What another store answered may be anything.
+-- A reading, of which this many files were read, comes to its value or to the first file that is
+-- absent. The files are those of the store where it tells them. What another store answered may be
+-- anything.
 abbrev pub ComesTo : {A : Type 0} → Option Files → ℕ → Reading A → Result A Absence → Type 0
 ComesTo told number (Ended value) result = result ≡ Ok value
 ComesTo told number (Asks name next) result =

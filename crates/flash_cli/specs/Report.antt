@@ -47,7 +47,8 @@ outcome_of (Ok (Ok answer)) = record { status = Done; answer = answer }
 outcome_of (Ok (Err why)) = refused_outcome (codes "") why
 outcome_of (Err absence) = refused_outcome absence.name (AbsentFile absence.file)
 
--- A command comes to this outcome on the files that it reads, which are the store's where it tells them.
+-- A command comes to this outcome on the files that it reads, which are the store's where it tells
+-- them.
 pub record IsOutcomeOf (told : Option Files) (command : Command) (outcome : Outcome) : Type 0 where
   pub result : Result (Result Answer Refusal) Absence
   pub comes : ComesTo told 0 (reading_of command) result
@@ -63,7 +64,8 @@ abbrev pub outcome_in : Files → Option Command → Outcome
 outcome_in files None = usage_outcome
 outcome_in files (Some command) = outcome_of (read_in files 0 (reading_of command))
 
--- A call ends whole: it has the status of the outcome, all files were put, and the whole text was pushed.
+-- A call ends whole: it has the status of the outcome, all files were put, and the whole text was
+-- pushed.
 pub record EndsWhole (told : Option Files) (command : Option Command) (status : Status)
     (put : Option Files) (before after : Option (List ℕ)) : Type 0 where
   pub outcome : Outcome
@@ -80,7 +82,8 @@ pub record EndsBeforeText (told : Option Files) (command : Option Command)
   pub puts : TellsSomePuts told outcome.answer.puts put
   pub silent : after ≡ before
 
--- A call ends in its text: all files were put, and a first part of the text was pushed, which may be none.
+-- A call ends in its text: all files were put, and a first part of the text was pushed, which may
+-- be none.
 pub record EndsInText (told : Option Files) (command : Option Command)
     (put : Option Files) (before after : Option (List ℕ)) : Type 0 where
   pub outcome : Outcome
@@ -144,18 +147,19 @@ IsNotRead told number name before now (Absent file absent) =
     TellsAnswer told name None × ((file ≡ number) × (string_bytes absent ≡ name))
 IsNotRead told number name before now (Failed failure) = IsCountedFailure before now failure
 
--- The files of these names, of which the first has this number, have these bytes: what a reading comes to
--- by them, it comes to where it asks for them in order.
+-- The files of these names, of which the first has this number, have these bytes: what a reading
+-- comes to by them, it comes to where it asks for them in order.
 abbrev pub AreRead : Option Files → ℕ → List (List ℕ) → List (List ℕ) → Type 0
 AreRead told number names read = (next : List (List ℕ) → Reading (Result Answer Refusal))
     (result : Result (Result Answer Refusal) Absence)
     → ComesTo told (number + length names) (next read) result
     → ComesTo told number (asks_all names [] next) result
 
--- the files of these names, of which the first has this number, were not all read for this reason: so
--- ends whatever asks for them in order
+-- the files of these names, of which the first has this number, were not all read for this reason:
+-- so ends whatever asks for them in order
 abbrev pub AreNotRead : Option Files → ℕ → List (List ℕ) → ℕ → ℕ → CommandError → Type 0
-AreNotRead told number names before now error = (next : List (List ℕ) → Reading (Result Answer Refusal))
+AreNotRead told number names before now error =
+    (next : List (List ℕ) → Reading (Result Answer Refusal))
     → IsEnd told number (asks_all names [] next) before now (Err error)
 
 -- the error of a text that means no plan

@@ -11,13 +11,15 @@ use Rattle.flash_text.specs.declared.refusal.Refusal.TheVariants.{Table, Csv}
 use Rattle.flash_cli.specs.Answer.{Answer}
 use Rattle.flash_text.specs.TableText.{rows_line}
 
--- the refusal of a source. That memory ran out is none of a source's, and what stands there plays no part
+-- the refusal of a source. That memory ran out is none of a source's, and what stands there plays
+-- no part
 abbrev pub csv_refusal : CsvNo → Refusal
 csv_refusal (no_table.At number reason) = Csv number reason
 csv_refusal (no_table.Rules bad) = Table bad
 csv_refusal no_table.Memory = Csv 0 why.Fields
 
--- the answer of the command with the rows of a source: the file with their table, and how many they are
+-- the answer of the command with the rows of a source: the file with their table, and how many they
+-- are
 abbrev pub answer_of_rows : List ℕ → Result (List Row) CsvNo → Result Answer Refusal
 answer_of_rows out (Ok rows) = Ok (record { text = rows_line rows; puts = (out, table_text rows) ∷ [] })
 answer_of_rows out (Err problem) = Err (csv_refusal problem)

@@ -20,7 +20,9 @@ answer_of_file (Err why) = Err why
 
 -- the rows of a table file for a flash of this size, or why it has none
 unfoldable pub file_rows : List ℕ → ℕ → Result (List Row) Refusal
-file_rows bytes flash = if length bytes == 3072 then rows_or_refusal (table_of bytes flash) else Err (TableLength (length bytes))
+file_rows bytes flash =
+    if length bytes == 3072 then rows_or_refusal (table_of bytes flash)
+    else Err (TableLength (length bytes))
 
 -- what the command comes to on a table file, for a flash of 16 MiB
 abbrev pub table_show_answer : List ℕ → Result Answer Refusal

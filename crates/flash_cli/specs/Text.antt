@@ -1,4 +1,5 @@
--- The lines that the program prints of its own: what a flash chooses and boots, and how it is called.
+-- The lines that the program prints of its own: what a flash chooses and boots, and how it is
+-- called.
 use Rattle.std.specs.Prelude.{List, ℕ, ◌++◌, codes}
 use Rattle.flash_text.specs.Text.{entry_line, names_line}
 use Rattle.flash_text.specs.BootText.{boots_line}

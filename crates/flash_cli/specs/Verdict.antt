@@ -2,7 +2,6 @@
 use Rattle.std.specs.Prelude.{◌≡◌, ℕ, List, length, Option, Some, Result, Ok, Err}
 use Rattle.nor_device.specs.Flash.{after_steps}
 use Rattle.partition_table.specs.declared.app.App.{App}
-use Rattle.partition_table.specs.declared.app.App.TheVariants.{Ota}
 use Rattle.partition_table.specs.Layout.{Places}
 use Rattle.boot_select.specs.Boots.{entries_in, names}
 use Rattle.rollback.specs.declared.rewrite.Rewrite.{Rewrite}
@@ -12,8 +11,8 @@ use Rattle.boot_run.specs.Verdict.{Tells}
 use Rattle.flash_text.specs.declared.refusal.Refusal.{Refusal}
 use Rattle.flash_cli.specs.declared.verdict.Judged.{Judged as CodeJudged}
 
--- a flash of which an application was confirmed or rejected: which one, how many steps were made, and the
--- flash that they leave
+-- a flash of which an application was confirmed or rejected: which one, how many steps were made,
+-- and the flash that they leave
 pub record Judged : Type 0 where
   pub app : App
   pub steps : ℕ
@@ -23,8 +22,8 @@ pub record Judged : Type 0 where
 abbrev pub shown_judged : CodeJudged → Judged
 shown_judged judged = record { app = judged.app; steps = judged.steps; flash = judged.flash.items }
 
--- a flash once these rewrites of its OTA data are made, with the application that they named before; or
--- the refusal
+-- a flash once these rewrites of its OTA data are made, with the application that they named
+-- before; or the refusal
 abbrev pub judged_by : {E : Type 0} → (E → Refusal) → List ℕ → Places → Result (List Rewrite) E
     → Result Judged Refusal
 judged_by refusal flash layout (Ok writes) = Ok (record {

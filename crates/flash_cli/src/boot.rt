@@ -30,7 +30,8 @@ pub(crate) struct Started {
     pub(crate) flash: Vec<u8>,
 }
 
-/// Carries out `boot`: the file with the flash after one boot, and what was started; or why nothing was.
+/// Carries out `boot`: the file with the flash after one boot, and what was started; or why nothing
+/// was.
 pub(crate) fn run_boot<S: Store>(
     alloc: Global,
     store: &mut S,

@@ -18,7 +18,8 @@ const SLOT: usize = 0x110000;
 /// Where an entry has its state.
 const STATE: usize = 24;
 
-/// An entry of sequence 1 in this state; the CRC is that of Python's `zlib.crc32`, inverted at the start.
+/// An entry of sequence 1 in this state; the CRC is that of Python's `zlib.crc32`, inverted at the
+/// start.
 fn first_entry(state: u8) -> [u8; 32] {
     let mut entry = [0xFF; 32];
     entry[..4].copy_from_slice(&[0x01, 0x00, 0x00, 0x00]);
@@ -60,8 +61,20 @@ fn store_of_flashes(alloc: Global) -> Result<MemStore, Fail> {
     }
     let image = store.get(alloc, "B")?;
     let (new, valid) = (first_entry(0), first_entry(2));
-    put_changed(alloc, &mut store, "F0", "updated", &[(SLOT, &image), (OTADATA, &new)])?;
-    put_changed(alloc, &mut store, "F0", "F1", &[(SLOT, &image), (OTADATA, &valid)])?;
+    put_changed(
+        alloc,
+        &mut store,
+        "F0",
+        "updated",
+        &[(SLOT, &image), (OTADATA, &new)],
+    )?;
+    put_changed(
+        alloc,
+        &mut store,
+        "F0",
+        "F1",
+        &[(SLOT, &image), (OTADATA, &valid)],
+    )?;
     put_changed(alloc, &mut store, "F0", "no factory", &[(FACTORY, &[0])])?;
     put_changed(alloc, &mut store, "F1", "slot alone", &[(FACTORY, &[0])])?;
     put_changed(alloc, &mut store, "F0", "no table", &[(0x8000, &[0])])?;
@@ -124,13 +137,18 @@ fn refused_calls<'a>() -> [Call<'a>; 11] {
         (&["boot", "none", "X"], 2, "refused: absent none\n"),
         (&["boot", "A", "X"], 2, "refused: flash size 80\n"),
         (&["confirm", "A", "X"], 2, "refused: flash size 80\n"),
-        (&["reject", "no table", "X"], 2, "refused: table magic row 0\n"),
+        (
+            &["reject", "no table", "X"],
+            2,
+            "refused: table magic row 0\n",
+        ),
         (&["boot", "F0"], 1, USAGE),
         (&["confirm", "F0", "X", "X"], 1, USAGE),
     ]
 }
 
-/// What a call left: the name of a flash, and the one that it was made of, with these bytes changed.
+/// What a call left: the name of a flash, and the one that it was made of, with these bytes
+/// changed.
 type Left<'a> = (&'a str, &'a str, &'a [(usize, &'a [u8])]);
 
 /// The flashes that the calls leave.
@@ -169,7 +187,11 @@ fn flashes_are_booted_confirmed_and_rejected(rt: HostRuntime) -> Result<(), Fail
     );
     for left in left_flashes() {
         let name = left.0;
-        assert_eq!(rt; is_left(alloc, &mut store, &left)?, true, "the flash {name}");
+        assert_eq!(rt;
+            is_left(alloc, &mut store, &left)?,
+            true,
+            "the flash {name}"
+        );
     }
     assert_eq!(rt;
         first_other(alloc, &refused_calls(), &mut store)?,

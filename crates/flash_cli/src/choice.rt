@@ -11,8 +11,8 @@ use flash_text::Refusal;
 use otadata::{Entry, entry_in};
 use partition_table::{App, Layout};
 
-/// Both entries of the OTA data as they stand, the application that they name, and the one that boots,
-/// with the length of its image in bytes.
+/// Both entries of the OTA data as they stand, the application that they name, and the one that
+/// boots, with the length of its image in bytes.
 #[derive(Clone, Copy, Debug, PartialEq, Eq)]
 pub(crate) struct Choice {
     pub(crate) first: Entry,

@@ -30,8 +30,8 @@ pub(crate) enum Kind {
     FlashMake,
 }
 
-/// A row of the table of commands: the word, how many names stand after it, the words of the options
-/// that may stand after these, and whether it starts cores.
+/// A row of the table of commands: the word, how many names stand after it, the words of the
+/// options that may stand after these, and whether it starts cores.
 #[derive(Clone, Copy)]
 pub(crate) struct Row {
     pub(crate) kind: Kind,
@@ -64,7 +64,8 @@ pub(crate) fn table() -> [Row; COMMANDS]
 /// A command, with the names of its files as they stand in the words.
 #[derive(Clone, Copy, Debug, PartialEq, Eq)]
 pub(crate) enum Command<'a> {
-    /// Print the entries of a flash's OTA data, the application that they name, and the one that boots.
+    /// Print the entries of a flash's OTA data, the application that they name, and the one that
+    /// boots.
     Choose {
         flash: &'a str,
     },
@@ -126,8 +127,8 @@ impl<'a> Command<'a> {
         }
     }
 
-    /// The command of this kind with these names, where they are as many as it has, and what is to be
-    /// a number is one.
+    /// The command of this kind with these names, where they are as many as it has, and what is to
+    /// be a number is one.
     fn made(kind: Kind, names: &'a [String]) -> Option<Command<'a>>
         ensures exact { option_map shown result ≡ made kind (words_of names.now) }
     {
@@ -245,8 +246,8 @@ fn is_file_name(word: &str) -> bool
     }
 }
 
-/// Whether words are options with their values: each is one of these, a value stands after it, and it
-/// comes once.
+/// Whether words are options with their values: each is one of these, a value stands after it, and
+/// it comes once.
 fn are_options(options: &[&str], words: &[String]) -> bool
     ensures exact { result
         ≡ are_options (map (λ option. option.now) options.now) (words_of words.now) }

@@ -24,8 +24,8 @@ use partition_table::{App, Layout};
 use pipe_ends::Store;
 use std::alloc::Global;
 
-/// Carries out `confirm`: the file with the flash once the active entry is VALID, and the application of
-/// its slot; or that there is none.
+/// Carries out `confirm`: the file with the flash once the active entry is VALID, and the
+/// application of its slot; or that there is none.
 pub(crate) fn run_confirm<S: Store>(
     alloc: Global,
     store: &mut S,
@@ -79,8 +79,9 @@ fn confirm_sure<D: Nor>(device: &mut D, layout: &Layout) -> Result<Told, Refusal
     requires small { D.size device.old < 2 ^ 32 }
     requires sure { IsSure D.may_end D.may_refuse (D.setting device.old) }
     ensures idle { D.running device.new ≡ None }
-    ensures exact { IfSome (D.bytes device.old) (λ flash. VerdictEnds confirm_refusal layout.now flash
-        (D.bytes device.new) (confirmation (entries_in layout.now flash)) result) }
+    ensures exact { IfSome (D.bytes device.old) (λ flash.
+        VerdictEnds confirm_refusal layout.now flash (D.bytes device.new)
+        (confirmation (entries_in layout.now flash)) result) }
 {
     match confirm(device, layout) {
         Ok(told) => Ok(told),

@@ -10,8 +10,8 @@ use nor_device::{Nor, RamNor};
 /// How often each step answers that it still runs.
 const POLLS: u32 = 2;
 
-/// The device over the bytes of a flash, which are not copied. It is idle, no step of it ends badly, and
-/// it refuses nothing.
+/// The device over the bytes of a flash, which are not copied. It is idle, no step of it ends
+/// badly, and it refuses nothing.
 pub(crate) fn device_of(flash: Vec<u8>) -> CutNor<RamNor>
     requires size { IsFlashSize (length flash.items) }
     ensures idle { ⟦<CutNor<RamNor> as Nor>⟧.running result ≡ None }

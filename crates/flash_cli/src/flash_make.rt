@@ -18,8 +18,8 @@ use partition_table::{Row, TABLE_OFFSET, TABLE_SIZE, Table};
 use pipe_ends::{Memory, Store};
 use std::alloc::Global;
 
-/// Carries out `flash-make`: the file with a flash of so many bytes that has a table and an image in its
-/// factory partition, or why there is none.
+/// Carries out `flash-make`: the file with a flash of so many bytes that has a table and an image
+/// in its factory partition, or why there is none.
 pub(crate) fn run_flash_make<S: Store>(
     alloc: Global,
     store: &mut S,

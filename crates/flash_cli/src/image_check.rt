@@ -16,8 +16,8 @@ use std::alloc::Global;
 /// The greatest length of an image.
 const LARGEST_IMAGE: u32 = 16_777_216;
 
-/// Carries out `image-check`: the lines of what a file is as a whole image, or the first fault that it
-/// shows.
+/// Carries out `image-check`: the lines of what a file is as a whole image, or the first fault that
+/// it shows.
 pub(crate) fn run_image_check<S: Store>(
     alloc: Global,
     store: &mut S,

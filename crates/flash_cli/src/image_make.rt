@@ -16,8 +16,8 @@ use image_maker::{MakeNo, Plan, PlanNo, make};
 use pipe_ends::Store;
 use std::alloc::Global;
 
-/// Carries out `image-make`: the file with the image that a plan and its parts make, or why they make
-/// none. A plan that is refused names no parts.
+/// Carries out `image-make`: the file with the image that a plan and its parts make, or why they
+/// make none. A plan that is refused names no parts.
 pub(crate) fn run_image_make<S: Store>(
     alloc: Global,
     store: &mut S,

@@ -102,7 +102,8 @@ fn changed(alloc: Global, at: usize, bytes: &[u8]) -> Result<Vec<u8>, AllocError
     Ok(image)
 }
 
-/// A store with these files, with the image less its last byte, and with the image and one byte more.
+/// A store with these files, with the image less its last byte, and with the image and one byte
+/// more.
 pub(crate) fn store_of_all(alloc: Global) -> Result<MemStore, PutFault> {
     let mut store = MemStore::new(Vec::new(alloc), Vec::new(alloc));
     store.put(alloc, "t.csv", SOURCE.as_bytes())?;

@@ -35,8 +35,8 @@ pub(crate) fn what_is_made_is_found_whole()
     whole_images_show_no_fault();
 }
 
-/// A bootloader finds a layout in the flash that `flash-make` puts, the image in factory, and factory
-/// named.
+/// A bootloader finds a layout in the flash that `flash-make` puts, the image in factory, and
+/// factory named; and it boots that image from there.
 pub(crate) fn a_made_flash_is_as_written_at_a_factory()
     ensures whole { MadeIsFactoryFlash }
 {

@@ -25,8 +25,8 @@ use partition_table::{App, Layout};
 use pipe_ends::Store;
 use std::alloc::Global;
 
-/// Carries out `reject`: the file with the flash once the active entry is INVALID, and the application of
-/// its slot; or that there is none, or no other one that would boot.
+/// Carries out `reject`: the file with the flash once the active entry is INVALID, and the
+/// application of its slot; or that there is none, or no other one that would boot.
 pub(crate) fn run_reject<S: Store>(
     alloc: Global,
     store: &mut S,
@@ -82,8 +82,8 @@ fn reject_sure<D: Nor>(device: &mut D, layout: &Layout) -> Result<Told, Refusal>
     requires some { 0 < length layout.now.slots }
     requires sure { IsSure D.may_end D.may_refuse (D.setting device.old) }
     ensures idle { D.running device.new ≡ None }
-    ensures exact { IfSome (D.bytes device.old) (λ flash. VerdictEnds reject_refusal layout.now flash
-        (D.bytes device.new)
+    ensures exact { IfSome (D.bytes device.old) (λ flash.
+        VerdictEnds reject_refusal layout.now flash (D.bytes device.new)
         (rejection layout.now (whole_in layout.now flash) (entries_in layout.now flash)) result) }
 {
     match reject(device, layout) {

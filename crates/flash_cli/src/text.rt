@@ -1,4 +1,5 @@
-//! The lines that the program prints of its own: what a flash chooses and boots, and how it is called.
+//! The lines that the program prints of its own: what a flash chooses and boots, and how it is
+//! called.
 
 ghost use Rattle.std.specs.Prelude.{◌≡◌, ◌++◌, OnOk, codes, map};
 ghost use Rattle.flash_cli.specs.Text.{choice_text, usage_line};
@@ -9,7 +10,8 @@ use crate::command::{Row, table};
 use flash_text::{put_boots, put_entry, put_names, put_text};
 use pipe_ends::Memory;
 
-/// Appends the lines of a choice: both entries, the application that they name, and the one that boots.
+/// Appends the lines of a choice: both entries, the application that they name, and the one that
+/// boots.
 #[tactic(auto, unfolding(crate::specs::Text::choice_text))]
 pub(crate) fn put_choice(out: &mut Vec<u8>, choice: &Choice) -> Result<(), Memory>
     ensures ok { OnOk result (out.new.items ≡ out.old.items ++ choice_text choice.now) }

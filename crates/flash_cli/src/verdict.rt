@@ -2,8 +2,8 @@
 
 use partition_table::App;
 
-/// A flash of which an application was confirmed or rejected: which one, how many steps were made, and
-/// the flash that they leave.
+/// A flash of which an application was confirmed or rejected: which one, how many steps were made,
+/// and the flash that they leave.
 #[derive(Drop)]
 pub(crate) struct Judged {
     pub(crate) app: App,

@@ -26,7 +26,8 @@ plan_why_text why.NoEntry = codes "noentry"
 unfoldable pub plan_text : ℕ → PlanWhy → List ℕ
 plan_text line reason = codes "plan line " ++ decimal line ++ codes " " ++ plan_why_text reason
 
--- Why a plan and its parts make no image. That memory ran out is no reason, and what stands there plays no part.
+-- Why a plan and its parts make no image. That memory ran out is no reason, and what stands there
+-- plays no part.
 unfoldable pub make_text : MakeNo → List ℕ
 make_text NoSegments = codes "make no segments"
 make_text (OddLength segment) = codes "make odd length " ++ decimal segment
@@ -48,7 +49,8 @@ bad_image_text (Segments n) = codes "image segments " ++ decimal n
 bad_image_text (Chip id) = codes "image chip " ++ decimal id
 bad_image_text (Flag byte) = codes "image flag" ++ hex_number 2 byte
 bad_image_text (Length segment length) = codes "image length " ++ pair_text segment length
-bad_image_text (Address segment load) = codes "image address " ++ decimal segment ++ hex_number 8 load
+bad_image_text (Address segment load) =
+    codes "image address " ++ decimal segment ++ hex_number 8 load
 bad_image_text (TooLarge need limit) = codes "image too large " ++ pair_text need limit
 bad_image_text (Short have need) = codes "image short " ++ pair_text have need
 bad_image_text (Trailing have need) = codes "image trailing " ++ pair_text have need

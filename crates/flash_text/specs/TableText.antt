@@ -42,7 +42,8 @@ csv_why_text why.TooManyRows = codes "toomanyrows"
 unfoldable pub csv_text : ℕ → CsvWhy → List ℕ
 csv_text number reason = codes "csv record " ++ decimal number ++ codes " " ++ csv_why_text reason
 
--- a byte as it is shown: a question mark where it is below the least one that is shown, or is no character
+-- a byte as it is shown: a question mark where it is below the least one that is shown, or is no
+-- character
 abbrev pub glyph : ℕ → ℕ → ℕ
 glyph least byte = if nat_le least byte && nat_le byte 126 then byte else 63
 

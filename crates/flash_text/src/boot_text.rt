@@ -15,8 +15,8 @@ pub fn put_boots(out: &mut Vec<u8>, app: App, length: u64) -> Result<(), Memory>
     put_image_of(out, "boots ", app, length)
 }
 
-/// Appends the lines of a boot: the application that was started, the length of its image in bytes, and
-/// how many steps came before it.
+/// Appends the lines of a boot: the application that was started, the length of its image in bytes,
+/// and how many steps came before it.
 #[tactic(auto, unfolding(crate::specs::BootText::booted_lines))]
 pub fn put_booted(out: &mut Vec<u8>, app: App, length: u64, steps: u64) -> Result<(), Memory>
     ensures ok { OnOk result (out.new.items ≡ out.old.items ++ booted_lines app length steps) }

@@ -16,5 +16,6 @@ pub fn made_images_are_whole()
 /// No text and no plan is refused for want of memory, which is no matter of what they mean.
 pub fn memory_is_no_refusal()
     ensures plan { (text : List ℕ) → plan_of_text text ≢ Err PlanNo.Memory }
-    ensures image { (plan : Planned) (files : List (List ℕ)) → image_of plan files ≢ Err MakeNo.Memory }
+    ensures image { (plan : Planned) (files : List (List ℕ))
+        → image_of plan files ≢ Err MakeNo.Memory }
 {}

@@ -6,7 +6,8 @@ use Rattle.flash_cli.proofs.choice.choice_in.Goals as goal
 pub returns-in-Ok : goal.returns-in-Ok
 returns-in-Ok c = record {
   exact = ap Ok c.choice_with.ensures.exact
-      ∙ sym (choice_boots c.args.flash.now c.args.layout.now _ c.in-Ok.booted.info c.in-Ok.ensures.boots);
+      ∙ sym (choice_boots c.args.flash.now c.args.layout.now _ c.in-Ok.booted.info
+      c.in-Ok.ensures.boots);
 }
 
 -- nothing boots

@@ -10,7 +10,8 @@ pub returns-in-Ok-clause-ok : goal.returns-in-Ok-clause-ok
 unfolding rejected_in
 returns-in-Ok-clause-ok c =
     verdict_judged reject_refusal c.args.layout.now
-    (λ bytes. rejection c.args.layout.now (whole_in c.args.layout.now bytes) (entries_in c.args.layout.now bytes))
+    (λ bytes. rejection c.args.layout.now (whole_in c.args.layout.now bytes)
+    (entries_in c.args.layout.now bytes))
     c.args.flash.items _ c.device_of-device.ensures.bytes _ _ c.in-Ok.told c.in-Ok.ensures.exact
     c.bytes_of.ensures.exact
 
@@ -19,5 +20,6 @@ pub returns-in-Err-clause-err : goal.returns-in-Err-clause-err
 unfolding rejected_in
 returns-in-Err-clause-err c =
     verdict_refused reject_refusal c.args.layout.now
-    (λ bytes. rejection c.args.layout.now (whole_in c.args.layout.now bytes) (entries_in c.args.layout.now bytes))
+    (λ bytes. rejection c.args.layout.now (whole_in c.args.layout.now bytes)
+    (entries_in c.args.layout.now bytes))
     c.args.flash.items _ c.device_of-device.ensures.bytes _ c.in-Err.why c.in-Err.ensures.exact
