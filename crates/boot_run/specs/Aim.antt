@@ -1,5 +1,5 @@
 -- What an update will write, or why it may not begin.
-use Rattle.std.specs.Prelude.{◌≡◌, ℕ, ◌%◌, ◌==◌, not, nat_lt, if◌then◌else◌, length, slice_get, Option, Some, None, Result, Ok, Err}
+use Rattle.std.specs.Prelude.{List, ◌≡◌, ◌≢◌, ◌≤◌, ℕ, ◌%◌, ◌==◌, not, nat_lt, if◌then◌else◌, length, slice_get, Option, Some, None, Result, Ok, Err}
 use Rattle.nor_device.specs.declared.nor.NorFault.{NorFault}
 use Rattle.nor_device.specs.declared.nor.NorFault.TheVariants.{Failed, Off}
 use Rattle.partition_table.specs.declared.app.App.{App}
@@ -13,8 +13,10 @@ use Rattle.otadata.specs.Next.{next_of}
 use Rattle.boot_select.specs.declared.settling.Unsettled.{Unsettled}
 use Rattle.boot_select.specs.Choice.{named_of}
 use Rattle.boot_select.specs.Settled.{is_same, settled_by, settled_of, waiting_of}
-use Rattle.boot_select.specs.Target.{target_of}
+use Rattle.boot_select.specs.Target.{IsAim, target_of}
 use Rattle.boot_select.specs.Boots.{Images, has_image}
+use Rattle.rollback.specs.Boots.{IsSettled}
+use Rattle.image_verify.specs.Info.{IsInfo}
 use Rattle.image_verify.specs.declared.info.ImageInfo.{ImageInfo}
 use Rattle.boot_run.specs.declared.aims.Aim.{Aim}
 use Rattle.boot_run.specs.declared.aims.AimNo.{AimNo}
@@ -90,3 +92,16 @@ pub record IsAimedBy (layout : Places) (e0 e1 : Entry) (started : Option (App ×
   pub slot : aim.slot ≡ target_of layout e0 e1 aim.running
   pub next : aim_at layout e0 e1 aim.running long aim.slot ≡ Ok aim.next
   pub length : aim.length ≡ long
+
+-- an update may begin so: the running application is settled and is told of, the slot is another one, which may be
+-- written and holds so many bytes, and the entry is the next one for it
+pub record Begins (layout : Places) (images : Images) (entries : ℕ → Entry) (aim : Aim) : Type 0 where
+  pub image : List ℕ
+  pub settled : IsSettled layout images entries aim.running image
+  pub told : IsInfo image aim.info
+  pub aims : IsAim layout entries aim.running aim.slot aim.next
+  pub apart : aim.running ≢ Ota aim.slot
+  pub row : Row
+  pub row_is : slice_get layout.slots aim.slot ≡ Some row
+  pub flags : row.flags % 4 ≡ 0
+  pub fits : aim.length ≤ row.size

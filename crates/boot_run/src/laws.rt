@@ -4,9 +4,10 @@ ghost use Rattle.std.specs.Prelude.{◌≡◌, ◌≢◌, ◌⊎◌, ◌<◌, �
 ghost use Rattle.nor_device.specs.Flash.{after_steps};
 ghost use Rattle.crash_images.specs.Crash.{LeftAfter};
 ghost use Rattle.partition_table.specs.Layout.{IsPlaced, Places};
+ghost use Rattle.otadata.specs.declared.entry.Entry.{Entry};
 ghost use Rattle.otadata.specs.Entry.{IsStored};
 ghost use Rattle.boot_select.specs.Candidates.{candidates};
-ghost use Rattle.boot_select.specs.Boots.{entries_in, first_held, images_in, names};
+ghost use Rattle.boot_select.specs.Boots.{Images, entries_in, first_held, images_in, names};
 ghost use Rattle.rollback.specs.declared.rewrite.Rewrite.{Rewrite};
 ghost use Rattle.rollback.specs.Rewrite.{changed};
 ghost use Rattle.rollback.specs.Boot.{boot_writes};
@@ -14,6 +15,8 @@ ghost use Rattle.rollback.specs.Boots.{boots_in};
 ghost use Rattle.rollback.specs.Pair.{other_of};
 ghost use Rattle.image_verify.specs.Held.{held};
 ghost use Rattle.boot_run.specs.Rewriting.{AreShort, rewrite, rewrites};
+ghost use Rattle.boot_run.specs.declared.aims.Aim.{Aim};
+ghost use Rattle.boot_run.specs.Aim.{Begins, IsAimed};
 ghost use Rattle.boot_run.specs.Crashed.{IsRestated, LeavesVerdict, LeavesVerdicts};
 
 /// What a loss of power may leave, at any moment, of a rewrite that gives an entry another state: of it
@@ -60,4 +63,12 @@ pub fn rewrites_are_read_back()
         (rewrites layout.otadata (boot_writes (entries_in layout flash))) in
         first_held (images_in held layout left)
         (candidates layout (names layout (entries_in layout left)))) }
+{}
+
+/// Where an aim is answered, an update may begin: the running application is settled, and the slot and the
+/// entry are those that an update writes beside it.
+pub fn aims_begin_updates()
+    ensures { (layout : Places) (images : Images) (entries : ℕ → Entry) (long : ℕ) (aim : Aim)
+        → 0 < length layout.slots → IsAimed layout images entries long aim
+        → Begins layout images entries aim }
 {}
