@@ -1,4 +1,5 @@
--- What boots stays where only addresses of the OTA data change, and the entry of a sector where only the other sector does.
+-- What boots stays where only addresses of the OTA data change, and the entry of a sector where
+-- only the other sector does.
 use Rattle.std.proofs.Common.{◌≡◌, inl, inr, ℕ, zero, suc, ◌+◌, ◌-◌, ◌*◌, ◌%◌, ◌<◌, ◌≤◌, List, [], ◌∷◌, ◌++◌, length, Option, Some, None, refl, ap, ◌∙◌, arith}
 use Rattle.std.proofs.lemmas.Bool.Decides.{nat_tests}
 use Rattle.nor_device.specs.declared.step.Step.{Step}

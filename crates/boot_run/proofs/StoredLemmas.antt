@@ -1,5 +1,5 @@
--- An entry that was rewritten is read back as it was written, and so what boots is told by the flash that a boot's rewrites
--- leave.
+-- An entry that was rewritten is read back as it was written, and so what boots is told by the
+-- flash that a boot's rewrites leave.
 use Rattle.std.proofs.Common.{◌==◌, true, false, ◌≡◌, ◌≢◌, ◌⊎◌, inl, inr, ℕ, zero, suc, ◌+◌, ◌-◌, ◌*◌, ◌/◌, ◌%◌, ◌<◌, ◌≤◌, List, [], ◌∷◌, ◌++◌, All, length, drop, refl, sym, ap, ◌∙◌, subst, arith, length-drop}
 use Rattle.std.specs.Prelude.{slice_index, bit_and}
 use Rattle.std.specs.Int.{byte_at, bytes_low_first}
@@ -184,7 +184,8 @@ boot_stored es stored (w ∷ v ∷ []) are =
     ((are.0.two, restated_stored es stored w are.0), ((are.1.two, restated_stored es stored v are.1), tt))
 boot_stored es stored (w ∷ v ∷ u ∷ ws) are = absurd are
 
--- what boots is the first candidate of the flash that the rewrites of a boot leave whose partition holds an image
+-- what boots is the first candidate of the flash that the rewrites of a boot leave whose partition
+-- holds an image
 pub boots_after : (layout : Places) (flash : List ℕ) → IsPlaced layout (length flash) → All (λ b. b < 256) flash
     → boots_in held layout flash
     ≡ first_held (images_in held layout (after_steps flash (rewrites layout.otadata (boot_writes (entries_in layout flash)))))

@@ -25,7 +25,8 @@ use Rattle.boot_run.specs.declared.aims.Unfit.{Unfit}
 use Rattle.boot_run.specs.declared.aims.Unfit.TheVariants.{NotSettled, Conflict, SlotFlags, SeqSpent as Spent, TooLarge}
 use Rattle.boot_run.specs.Verified.{HasInfo}
 
--- an image of so many bytes for this slot: the next entry for it, where there is one and the image fits
+-- an image of so many bytes for this slot: the next entry for it, where there is one and the image
+-- fits
 abbrev pub aim_next : ℕ → Row → Result NextEntry SeqSpent → Result NextEntry Unfit
 aim_next long row (Err spent) = Err (Spent spent.seq)
 aim_next long row (Ok next) = if nat_lt row.size long then Err (TooLarge long row.size) else Ok next
@@ -42,8 +43,8 @@ aim_at layout e0 e1 running long slot =
     if is_same running (Ota slot) then Err (Conflict slot)
     else aim_in slot long (slice_get layout.slots slot) (next_of e0 e1 slot (length layout.slots))
 
--- an application runs, and so on: the next entry for the slot that is written beside it, or the first reason why an update
--- of so many bytes may not begin
+-- an application runs, and so on: the next entry for the slot that is written beside it, or the
+-- first reason why an update of so many bytes may not begin
 abbrev pub aim_by : Places → Entry → Entry → ℕ → Result App Unsettled → Result NextEntry Unfit
 aim_by layout e0 e1 long (Err why) = Err (NotSettled why)
 aim_by layout e0 e1 long (Ok running) =
@@ -85,17 +86,19 @@ app_started None = None
 app_started (Some started) = Some started.0
 
 -- an update may begin beside the application that was started
-pub record IsAimedBy (layout : Places) (e0 e1 : Entry) (started : Option (App × ImageInfo)) (long : ℕ)
-    (aim : Aim) : Type 0 where
-  pub runs : settled_by (waiting_of e0 e1) (named_of layout e0 e1) (app_started started) ≡ Ok aim.running
+pub record IsAimedBy (layout : Places) (e0 e1 : Entry) (started : Option (App × ImageInfo))
+    (long : ℕ) (aim : Aim) : Type 0 where
+  pub runs : settled_by (waiting_of e0 e1) (named_of layout e0 e1) (app_started started)
+      ≡ Ok aim.running
   pub info : started ≡ Some (aim.running, aim.info)
   pub slot : aim.slot ≡ target_of layout e0 e1 aim.running
   pub next : aim_at layout e0 e1 aim.running long aim.slot ≡ Ok aim.next
   pub length : aim.length ≡ long
 
--- an update may begin so: the running application is settled and is told of, the slot is another one, which may be
--- written and holds so many bytes, and the entry is the next one for it
-pub record Begins (layout : Places) (images : Images) (entries : ℕ → Entry) (aim : Aim) : Type 0 where
+-- an update may begin so: the running application is settled and is told of, the slot is another
+-- one, which may be written and holds so many bytes, and the entry is the next one for it
+pub record Begins (layout : Places) (images : Images) (entries : ℕ → Entry)
+    (aim : Aim) : Type 0 where
   pub image : List ℕ
   pub settled : IsSettled layout images entries aim.running image
   pub told : IsInfo image aim.info

@@ -19,11 +19,11 @@ ghost use Rattle.boot_run.specs.declared.aims.Aim.{Aim};
 ghost use Rattle.boot_run.specs.Aim.{Begins, IsAimed};
 ghost use Rattle.boot_run.specs.Crashed.{IsRestated, LeavesVerdict, LeavesVerdicts};
 
-/// What a loss of power may leave, at any moment, of a rewrite that gives an entry another state: of it
-/// boots what boots where the entry is VALID, or is INVALID, or the entry that is found matches by
-/// chance (`verdict`); so it is of the rewrites of a boot, one after the other (`boot`). The images and
-/// the entry of the other sector stay (`images`, `other`), and where an application boots, one boots at
-/// every moment (`some`).
+/// What a loss of power may leave, at any moment, of a rewrite that gives an entry another state:
+/// of it boots what boots where the entry is VALID, or is INVALID, or the entry that is found
+/// matches by chance (`verdict`); so it is of the rewrites of a boot, one after the other (`boot`).
+/// The images and the entry of the other sector stay (`images`, `other`), and where an application
+/// boots, one boots at every moment (`some`).
 pub fn lost_rewrites_leave_verdicts()
     ensures verdict { (layout : Places) (size : ℕ) (flash left : List ℕ) (write : Rewrite)
         → IsPlaced layout size → IsRestated (entries_in layout flash) write
@@ -47,9 +47,9 @@ pub fn lost_rewrites_leave_verdicts()
         → boots_in held layout flash ≢ None → boots_in held layout left ≢ None }
 {}
 
-/// A rewrite leaves the entry that it writes, and the other one as it was (`entry`). What boots of a
-/// flash of bytes is the first candidate of the flash that the rewrites of a boot leave whose partition
-/// holds a whole image there (`after`).
+/// A rewrite leaves the entry that it writes, and the other one as it was (`entry`). What boots of
+/// a flash of bytes is the first candidate of the flash that the rewrites of a boot leave whose
+/// partition holds a whole image there (`after`).
 pub fn rewrites_are_read_back()
     ensures entry { (layout : Places) (flash : List ℕ) (write : Rewrite)
         → IsPlaced layout (length flash) → write.sector < 2 → IsStored write.entry
@@ -65,8 +65,8 @@ pub fn rewrites_are_read_back()
         (candidates layout (names layout (entries_in layout left)))) }
 {}
 
-/// Where an aim is answered, an update may begin: the running application is settled, and the slot and the
-/// entry are those that an update writes beside it.
+/// Where an aim is answered, an update may begin: the running application is settled, and the slot
+/// and the entry are those that an update writes beside it.
 pub fn aims_begin_updates()
     ensures { (layout : Places) (images : Images) (entries : ℕ → Entry) (long : ℕ) (aim : Aim)
         → 0 < length layout.slots → IsAimed layout images entries long aim
