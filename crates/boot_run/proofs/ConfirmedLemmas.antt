@@ -1,5 +1,5 @@
 -- Once an application is confirmed, it boots, where its slot holds an image.
-use Rattle.std.proofs.Common.{◌==◌, true, false, Bool, ◌≡◌, ◌⊎◌, inl, inr, ℕ, zero, suc, ◌+◌, ◌*◌, ◌<◌, ◌≤◌, List, [], ◌∷◌, length, Option, Some, None, IfSome, Result, Ok, Err, IfOk, OnOk, lit<, if◌then◌else◌, refl, sym, ap, ◌∙◌, subst, arith}
+use Rattle.std.proofs.Common.{◌==◌, true, false, Bool, ◌≡◌, ◌⊎◌, inl, inr, ℕ, zero, suc, ◌<◌, List, [], ◌∷◌, length, Option, Some, None, IfSome, Result, Ok, Err, IfOk, OnOk, lit<, if◌then◌else◌, refl, sym, ap, ◌∙◌, subst, arith}
 use Rattle.std.proofs.lemmas.Bool.{cases_Bool}
 use Rattle.std.proofs.lemmas.Bool.Decides.{nat_tests}
 use Rattle.nor_device.specs.declared.nor.NorFault.{NorFault}
@@ -10,7 +10,7 @@ use Rattle.partition_table.specs.declared.app.App.{App}
 use Rattle.partition_table.specs.declared.app.App.TheVariants.{Ota}
 use Rattle.partition_table.specs.Layout.{Places, IsPlaced}
 use Rattle.otadata.specs.declared.entry.Entry.{Entry}
-use Rattle.otadata.specs.Choice.{active_of, slot_named}
+use Rattle.otadata.specs.Choice.{active_of}
 use Rattle.otadata.specs.Entry.{IsStored}
 use Rattle.otadata.proofs.ChoiceLemmas.{active-lt}
 use Rattle.boot_select.specs.Choice.{named_by, named_of, slot_app}
@@ -18,7 +18,7 @@ use Rattle.boot_select.specs.Settled.{sectors}
 use Rattle.boot_select.specs.Boots.{entries_in, images_in}
 use Rattle.rollback.specs.declared.rewrite.Rewrite.{Rewrite}
 use Rattle.rollback.specs.declared.verdict.NoOtaApp.{NoOtaApp}
-use Rattle.rollback.specs.Rewrite.{changed, restated, with_state}
+use Rattle.rollback.specs.Rewrite.{restated, with_state}
 use Rattle.rollback.specs.Boots.{boots, boots_in, in_state}
 use Rattle.rollback.specs.Verdict.{confirm_by, confirm_of}
 use Rattle.rollback.proofs.EntriesLemmas.{boots_same}

@@ -1,6 +1,6 @@
--- What boots stays where only addresses of the OTA data change, and the entry of a sector where only the other sector does.
+-- What boots stays where only addresses of the OTA data change, and the entry of a sector where
+-- only the other sector does.
 use Rattle.std.proofs.Common.{◌≡◌, inl, inr, ℕ, zero, suc, ◌+◌, ◌-◌, ◌*◌, ◌%◌, ◌<◌, ◌≤◌, List, [], ◌∷◌, ◌++◌, length, Option, Some, None, refl, ap, ◌∙◌, arith}
-use Rattle.std.proofs.lemmas.List.{length-append}
 use Rattle.std.proofs.lemmas.Bool.Decides.{nat_tests}
 use Rattle.nor_device.specs.declared.step.Step.{Step}
 use Rattle.nor_device.specs.Nor.{part_of}
@@ -12,8 +12,7 @@ use Rattle.partition_table.specs.declared.row.Row.{Row}
 use Rattle.partition_table.specs.Rules.{Stands, is_within}
 use Rattle.partition_table.specs.Layout.{Places, row_for, Apart, IsPlaced, layout_by, layout_in}
 use Rattle.partition_table.specs.Table.{table_of}
-use Rattle.otadata.specs.declared.entry.Entry.{Entry}
-use Rattle.otadata.specs.Entry.{entry_of, entry_bytes}
+use Rattle.otadata.specs.Entry.{entry_of}
 use Rattle.otadata.proofs.EntryLemmas.{length-entry_bytes}
 use Rattle.boot_select.specs.Boots.{entries_in, image_by, images_in}
 use Rattle.rollback.specs.declared.rewrite.Rewrite.{Rewrite}

@@ -1,6 +1,6 @@
--- An entry that was rewritten is read back as it was written, and so what boots is told by the flash that a boot's rewrites
--- leave.
-use Rattle.std.proofs.Common.{◌==◌, true, false, Option, ◌≡◌, ◌≢◌, ◌⊎◌, inl, inr, ℕ, zero, suc, ◌+◌, ◌-◌, ◌*◌, ◌/◌, ◌%◌, ◌<◌, ◌≤◌, ◌^◌, List, [], ◌∷◌, ◌++◌, All, length, get_or, take, drop, refl, sym, ap, ◌∙◌, subst, arith, length-drop}
+-- An entry that was rewritten is read back as it was written, and so what boots is told by the
+-- flash that a boot's rewrites leave.
+use Rattle.std.proofs.Common.{◌==◌, true, false, ◌≡◌, ◌≢◌, ◌⊎◌, inl, inr, ℕ, zero, suc, ◌+◌, ◌-◌, ◌*◌, ◌/◌, ◌%◌, ◌<◌, ◌≤◌, List, [], ◌∷◌, ◌++◌, All, length, drop, refl, sym, ap, ◌∙◌, subst, arith, length-drop}
 use Rattle.std.specs.Prelude.{slice_index, bit_and}
 use Rattle.std.specs.Int.{byte_at, bytes_low_first}
 use Rattle.std.proofs.lemmas.Bool.{cases_Bool}
@@ -23,12 +23,12 @@ use Rattle.boot_select.specs.Candidates.{candidates}
 use Rattle.boot_select.specs.Boots.{entries_in, first_held, images_in, names}
 use Rattle.image_verify.specs.Held.{held}
 use Rattle.rollback.specs.declared.rewrite.Rewrite.{Rewrite}
-use Rattle.rollback.specs.Rewrite.{changed, restated, written}
+use Rattle.rollback.specs.Rewrite.{changed, written}
 use Rattle.rollback.specs.Boot.{boot_writes}
 use Rattle.rollback.specs.Boots.{boots, boots_in}
 use Rattle.rollback.specs.Pair.{other_of}
 use Rattle.rollback.proofs.EntriesLemmas.{written_same}
-use Rattle.boot_run.specs.Rewriting.{AreShort, rewrite, rewrites}
+use Rattle.boot_run.specs.Rewriting.{rewrite, rewrites}
 use Rattle.boot_run.specs.Crashed.{IsRestated}
 use Rattle.boot_run.proofs.FrameLemmas.{left_images, left_other}
 use Rattle.boot_run.proofs.WritesLemmas.{AreRewrites, boot_are, boot_short}
@@ -184,7 +184,8 @@ boot_stored es stored (w ∷ v ∷ []) are =
     ((are.0.two, restated_stored es stored w are.0), ((are.1.two, restated_stored es stored v are.1), tt))
 boot_stored es stored (w ∷ v ∷ u ∷ ws) are = absurd are
 
--- what boots is the first candidate of the flash that the rewrites of a boot leave whose partition holds an image
+-- what boots is the first candidate of the flash that the rewrites of a boot leave whose partition
+-- holds an image
 pub boots_after : (layout : Places) (flash : List ℕ) → IsPlaced layout (length flash) → All (λ b. b < 256) flash
     → boots_in held layout flash
     ≡ first_held (images_in held layout (after_steps flash (rewrites layout.otadata (boot_writes (entries_in layout flash)))))

@@ -1,4 +1,5 @@
--- The rewrites of a boot: at most two, of different sectors, and each gives the entry that stands there another state.
+-- The rewrites of a boot: at most two, of different sectors, and each gives the entry that stands
+-- there another state.
 use Rattle.std.proofs.Common.{◌^◌, lit<, ◌==◌, ◌≡◌, ◌⊎◌, inl, inr, ℕ, zero, suc, ◌<◌, ◌≤◌, true, false, List, [], ◌∷◌, ◌++◌, length, get_or, drop, ◌+◌, Option, Some, None, refl, sym, ap, ◌∙◌, subst, arith, All}
 use Rattle.std.proofs.Math.Seq.{drop-cons}
 use Rattle.std.proofs.lemmas.Bool.{cases_Bool}

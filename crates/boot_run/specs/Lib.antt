@@ -1,5 +1,5 @@
--- In reading order: steps on a device, the steps of a rewrite, the entries of a device, what verifying
--- tells, what a loss of power leaves, what a boot answers.
+-- In reading order: steps on a device, the steps of a rewrite, the entries of a device, what
+-- verifying tells, what a loss of power leaves, what a boot answers.
 pub mod Made
 pub mod Rewriting
 pub mod Read

@@ -1,5 +1,5 @@
--- What making a list of steps on a device says: all were made whole, or the first ones were, and then
--- one was not begun or was broken off.
+-- What making a list of steps on a device says: all were made whole, or the first ones were, and
+-- then one was not begun or was broken off.
 use Rattle.std.specs.Prelude.{◌≡◌, ◌⊎◌, ℕ, List, [], ◌∷◌, ◌++◌, Option, Some, IfSome, Result, MatchResult}
 use Rattle.nor_device.specs.declared.step.Step.{Step}
 use Rattle.nor_device.specs.declared.nor.StepEnd.{StepEnd}
@@ -26,9 +26,11 @@ module _ {S : Type 0} (may_end : S → ℕ → StepEnd → Type 0)
   -- so was each of these steps, one after the other
   abbrev pub EachDone : S → ℕ → List Step → Type 0
   EachDone setting count [] = Unit {0}
-  EachDone setting count (step ∷ steps) = IsDone setting count × EachDone setting (one_more count) steps
+  EachDone setting count (step ∷ steps) =
+      IsDone setting count × EachDone setting (one_more count) steps
 
-  -- all of the steps were made whole: the number of steps rose by theirs, and the bytes are those after them
+  -- all of the steps were made whole: the number of steps rose by theirs, and the bytes are those
+  -- after them
   pub record AreMade (setting : S) (steps : List Step) (count now : ℕ)
       (old new : Option (List ℕ)) : Type 0 where
     pub each : EachDone setting count steps
@@ -42,8 +44,8 @@ module _ {S : Type 0} (may_end : S → ℕ → StepEnd → Type 0)
     pub allowed : may_refuse setting now why
     pub bytes : IsAfterAll made old new
 
-  -- after these steps one more was begun, which has the next number, and it was broken off: it may end so, and has left a
-  -- torn flash that it may leave
+  -- after these steps one more was begun, which has the next number, and it was broken off: it may
+  -- end so, and has left a torn flash that it may leave
   pub record IsBrokenAfter (setting : S) (made : List Step) (step : Step) (count now : ℕ)
       (old new : Option (List ℕ)) (why : NorFault) : Type 0 where
     pub begun : ¬ must_refuse setting (count_after count made)
@@ -53,7 +55,8 @@ module _ {S : Type 0} (may_end : S → ℕ → StepEnd → Type 0)
         × Torn (after_steps flash made) step left
         × may_tear setting now (after_steps flash made) step left)
 
-  -- the first of the steps that are left was not begun, or was broken off; where none is left, a later call was refused
+  -- the first of the steps that are left was not begun, or was broken off; where none is left, a
+  -- later call was refused
   abbrev pub StopsAt : S → List Step → List Step → ℕ → ℕ → Option (List ℕ) → Option (List ℕ)
       → NorFault → Type 0
   StopsAt setting made [] count now old new why =

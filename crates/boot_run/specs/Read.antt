@@ -7,7 +7,8 @@ use Rattle.boot_select.specs.Boots.{AreTold, entries_in, has_image, images_in}
 use Rattle.image_verify.specs.Held.{held}
 
 -- this holds of the entries of a device: of those in its bytes, where it tells them, else of some
-pub record OfEntries (layout : Places) (told : Option (List ℕ)) (P : (ℕ → Entry) → Type 0) : Type 0 where
+pub record OfEntries (layout : Places) (told : Option (List ℕ))
+    (P : (ℕ → Entry) → Type 0) : Type 0 where
   pub entries : ℕ → Entry
   pub read : IfSome told (λ flash. entries ≡ entries_in layout flash)
   pub holds : P entries

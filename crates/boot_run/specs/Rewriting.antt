@@ -5,7 +5,8 @@ use Rattle.nor_device.specs.declared.step.Step.TheVariants.{Erase, Program}
 use Rattle.otadata.specs.Entry.{entry_bytes}
 use Rattle.rollback.specs.declared.rewrite.Rewrite.{Rewrite}
 
--- the sector is erased, and then the 32 bytes of the entry are programmed at once; the OTA data begin at this place
+-- the sector is erased, and then the 32 bytes of the entry are programmed at once; the OTA data
+-- begin at this place
 abbrev pub rewrite : ℕ → Rewrite → List Step
 rewrite otadata write =
     Erase (otadata / 4096 + write.sector)
@@ -21,7 +22,8 @@ abbrev pub AreShort : List Rewrite → Type 0
 AreShort [] = Unit {0}
 AreShort (write ∷ writes) = ((write.sector < 2) × (length write.entry.label ≤ 20)) × AreShort writes
 
--- the two sectors of the OTA data lie in a device of this size, at a sector, and each address fits 32 bits
+-- the two sectors of the OTA data lie in a device of this size, at a sector, and each address fits
+-- 32 bits
 pub record AreSectors (otadata size : ℕ) : Type 0 where
   pub aligned : otadata % 4096 ≡ 0
   pub inside : otadata + 8192 ≤ size

@@ -45,7 +45,8 @@ abbrev pub writes_of : {E : Type 0} → Result (List Rewrite) E → List Rewrite
 writes_of (Ok writes) = writes
 writes_of (Err why) = []
 
--- what is told of rewrites: the slot of the application that the entries name, and how many steps the rewrites are
+-- what is told of rewrites: the slot of the application that the entries name, and how many steps
+-- the rewrites are
 pub record Tells (otadata : ℕ) (named : App) (writes : List Rewrite) (told : Told) : Type 0 where
   pub slot : named ≡ Ota told.slot
   pub steps : told.steps ≡ length (rewrites otadata writes)

@@ -1,5 +1,5 @@
-//! What an update of a device will write: the slot beside the running application, and the entry that
-//! announces it.
+//! What an update of a device will write: the slot beside the running application, and the entry
+//! that announces it.
 
 ghost use Rattle.std.specs.Prelude.{◌≡◌, ◌<◌, ◌^◌, None, Err, IfSome, OnOk, IfOk, IfErr, length as count};
 ghost use Rattle.nor_device.specs.Nor.{HasCause, IsIdleAsBefore, KeepsSteps};
@@ -19,8 +19,8 @@ use nor_device::{Nor, NorFault};
 use otadata::{Entry, NextEntry, next_entry};
 use partition_table::{App, Layout};
 
-/// Looks at a device for what an update of so many bytes would write, or why it may not begin. Nothing is
-/// written.
+/// Looks at a device for what an update of so many bytes would write, or why it may not begin.
+/// Nothing is written.
 pub fn aim<D: Nor>(device: &mut D, layout: &Layout, length: u32) -> Result<Aim, AimNo>
     requires idle { D.running device.old ≡ None }
     requires placed { IsPlaced layout.now (D.size device.old) }

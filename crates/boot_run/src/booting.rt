@@ -28,8 +28,8 @@ use otadata::Entry;
 use partition_table::{App, Layout};
 use rollback::{Rewrite, boot_writes};
 
-/// Boots a device once: makes the rewrites of its entries, each an erase and one program, and gives the
-/// first application whose image is whole.
+/// Boots a device once: makes the rewrites of its entries, each an erase and one program, and gives
+/// the first application whose image is whole.
 pub fn boot<D: Nor>(device: &mut D, layout: &Layout) -> Result<Booted, BootFault>
     requires idle { D.running device.old ≡ None }
     requires placed { IsPlaced layout.now (D.size device.old) }
@@ -49,7 +49,8 @@ pub fn boot<D: Nor>(device: &mut D, layout: &Layout) -> Result<Booted, BootFault
     ensures boots { IfOk (boot_answer result) (λ booted. IfSome (D.bytes device.old) (λ flash.
         IsBoot layout.now (images_in held layout.now flash) (entries_in layout.now flash) booted)) }
     ensures crash { OnErr (boot_answer result) (IsLeftByVerdicts layout.now
-        (λ flash. boot_writes (entries_in layout.now flash)) (D.bytes device.old) (D.bytes device.new)) }
+        (λ flash. boot_writes (entries_in layout.now flash))
+        (D.bytes device.old) (D.bytes device.new)) }
     ensures still { StillBoots layout.now (D.bytes device.old) (D.bytes device.new) }
 {
     booted(boot_on(device, layout))
@@ -85,7 +86,8 @@ fn boot_on<D: Nor>(device: &mut D, layout: &Layout) -> Result<Option<Booted>, No
     ensures boots { IfOk result (λ booted. IfSome (D.bytes device.old) (λ flash.
         IsBoot layout.now (images_in held layout.now flash) (entries_in layout.now flash) booted)) }
     ensures crash { OnErr result (IsLeftByVerdicts layout.now
-        (λ flash. boot_writes (entries_in layout.now flash)) (D.bytes device.old) (D.bytes device.new)) }
+        (λ flash. boot_writes (entries_in layout.now flash))
+        (D.bytes device.old) (D.bytes device.new)) }
     ensures still { StillBoots layout.now (D.bytes device.old) (D.bytes device.new) }
 {
     let (first, second) = read_entries(device, layout)?;

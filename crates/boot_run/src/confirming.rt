@@ -22,8 +22,8 @@ use otadata::Entry;
 use partition_table::{App, Layout};
 use rollback::{NoOtaApp, confirm_write};
 
-/// Marks the active entry VALID. Nothing is written where it is so already, or where no entry is active.
-/// Afterwards the application that is confirmed boots, where its slot holds a whole image.
+/// Marks the active entry VALID. Nothing is written where it is so already, or where no entry is
+/// active. Afterwards the application that is confirmed boots, where its slot holds a whole image.
 pub fn confirm<D: Nor>(device: &mut D, layout: &Layout) -> Result<Told, ConfirmFault>
     requires idle { D.running device.old ≡ None }
     requires placed { IsPlaced layout.now (D.size device.old) }

@@ -4,9 +4,10 @@ ghost use Rattle.std.specs.Prelude.{◌≡◌, ◌≢◌, ◌⊎◌, ◌<◌, �
 ghost use Rattle.nor_device.specs.Flash.{after_steps};
 ghost use Rattle.crash_images.specs.Crash.{LeftAfter};
 ghost use Rattle.partition_table.specs.Layout.{IsPlaced, Places};
+ghost use Rattle.otadata.specs.declared.entry.Entry.{Entry};
 ghost use Rattle.otadata.specs.Entry.{IsStored};
 ghost use Rattle.boot_select.specs.Candidates.{candidates};
-ghost use Rattle.boot_select.specs.Boots.{entries_in, first_held, images_in, names};
+ghost use Rattle.boot_select.specs.Boots.{Images, entries_in, first_held, images_in, names};
 ghost use Rattle.rollback.specs.declared.rewrite.Rewrite.{Rewrite};
 ghost use Rattle.rollback.specs.Rewrite.{changed};
 ghost use Rattle.rollback.specs.Boot.{boot_writes};
@@ -14,13 +15,15 @@ ghost use Rattle.rollback.specs.Boots.{boots_in};
 ghost use Rattle.rollback.specs.Pair.{other_of};
 ghost use Rattle.image_verify.specs.Held.{held};
 ghost use Rattle.boot_run.specs.Rewriting.{AreShort, rewrite, rewrites};
+ghost use Rattle.boot_run.specs.declared.aims.Aim.{Aim};
+ghost use Rattle.boot_run.specs.Aim.{Begins, IsAimed};
 ghost use Rattle.boot_run.specs.Crashed.{IsRestated, LeavesVerdict, LeavesVerdicts};
 
-/// What a loss of power may leave, at any moment, of a rewrite that gives an entry another state: of it
-/// boots what boots where the entry is VALID, or is INVALID, or the entry that is found matches by
-/// chance (`verdict`); so it is of the rewrites of a boot, one after the other (`boot`). The images and
-/// the entry of the other sector stay (`images`, `other`), and where an application boots, one boots at
-/// every moment (`some`).
+/// What a loss of power may leave, at any moment, of a rewrite that gives an entry another state:
+/// of it boots what boots where the entry is VALID, or is INVALID, or the entry that is found
+/// matches by chance (`verdict`); so it is of the rewrites of a boot, one after the other (`boot`).
+/// The images and the entry of the other sector stay (`images`, `other`), and where an application
+/// boots, one boots at every moment (`some`).
 pub fn lost_rewrites_leave_verdicts()
     ensures verdict { (layout : Places) (size : ℕ) (flash left : List ℕ) (write : Rewrite)
         → IsPlaced layout size → IsRestated (entries_in layout flash) write
@@ -44,9 +47,9 @@ pub fn lost_rewrites_leave_verdicts()
         → boots_in held layout flash ≢ None → boots_in held layout left ≢ None }
 {}
 
-/// A rewrite leaves the entry that it writes, and the other one as it was (`entry`). What boots of a
-/// flash of bytes is the first candidate of the flash that the rewrites of a boot leave whose partition
-/// holds a whole image there (`after`).
+/// A rewrite leaves the entry that it writes, and the other one as it was (`entry`). What boots of
+/// a flash of bytes is the first candidate of the flash that the rewrites of a boot leave whose
+/// partition holds a whole image there (`after`).
 pub fn rewrites_are_read_back()
     ensures entry { (layout : Places) (flash : List ℕ) (write : Rewrite)
         → IsPlaced layout (length flash) → write.sector < 2 → IsStored write.entry
@@ -60,4 +63,12 @@ pub fn rewrites_are_read_back()
         (rewrites layout.otadata (boot_writes (entries_in layout flash))) in
         first_held (images_in held layout left)
         (candidates layout (names layout (entries_in layout left)))) }
+{}
+
+/// Where an aim is answered, an update may begin: the running application is settled, and the slot
+/// and the entry are those that an update writes beside it.
+pub fn aims_begin_updates()
+    ensures { (layout : Places) (images : Images) (entries : ℕ → Entry) (long : ℕ) (aim : Aim)
+        → 0 < length layout.slots → IsAimed layout images entries long aim
+        → Begins layout images entries aim }
 {}

@@ -23,7 +23,7 @@ pub use aims::{Aim, AimNo};
 pub use booted::{BootFault, Booted};
 pub use booting::boot;
 pub use confirming::confirm;
-pub use laws::{lost_rewrites_leave_verdicts, rewrites_are_read_back};
+pub use laws::{aims_begin_updates, lost_rewrites_leave_verdicts, rewrites_are_read_back};
 pub use previewing::{NoApp, preview};
 pub use rejecting::reject;
 pub use told::{ConfirmFault, RejectFault, Told};

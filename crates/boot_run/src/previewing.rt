@@ -22,7 +22,8 @@ use rollback::boot_writes;
 #[derive(Clone, Copy, Debug, PartialEq, Eq)]
 pub struct NoApp;
 
-/// What [`crate::boot`] would start of a flash with these bytes; `steps` are those that it would make.
+/// What [`crate::boot`] would start of a flash with these bytes; `steps` are those that it would
+/// make.
 pub fn preview(flash: &[u8], layout: &Layout) -> Result<Booted, NoApp>
     requires placed { IsPlaced layout.now (length flash.now) }
     requires small { length flash.now < 2 ^ 32 }

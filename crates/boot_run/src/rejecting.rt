@@ -22,8 +22,8 @@ use otadata::Entry;
 use partition_table::Layout;
 use rollback::{RejectNo, reject_write};
 
-/// Marks the active entry INVALID, where another application would be started then. Nothing is written
-/// where no entry is active, or where there is nothing else.
+/// Marks the active entry INVALID, where another application would be started then. Nothing is
+/// written where no entry is active, or where there is nothing else.
 pub fn reject<D: Nor>(device: &mut D, layout: &Layout) -> Result<Told, RejectFault>
     requires idle { D.running device.old ≡ None }
     requires placed { IsPlaced layout.now (D.size device.old) }

@@ -12,8 +12,8 @@ use image_verify::ImageInfo;
 use nor_device::{Nor, NorFault};
 use partition_table::{App, Layout};
 
-/// The first of these applications whose partition holds a whole image, and what the image is. Each is
-/// verified at most once, and none after the first.
+/// The first of these applications whose partition holds a whole image, and what the image is. Each
+/// is verified at most once, and none after the first.
 pub(crate) fn first_on<D: Nor>(
     device: &mut D,
     layout: &Layout,

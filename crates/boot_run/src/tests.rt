@@ -125,7 +125,8 @@ fn fill(bytes: &mut [u8], first: &Entry, second: &Entry, whole: [bool; 3])
     put_at(bytes, FACTORY + 0x2_0000, &IMAGE, whole[2]);
 }
 
-/// A device with 2 polls a step over a flash of these entries and images, which is cut in this step.
+/// A device with 2 polls a step over a flash of these entries and images, which is cut in this
+/// step.
 fn device_of(
     alloc: Global,
     first: &Entry,
@@ -190,7 +191,8 @@ fn seen(flash: &[u8], layout: &Layout) -> Result<Start, NoApp>
     }
 }
 
-/// A look for an update of so many bytes: the application that runs, the slot, the sector, the sequence.
+/// A look for an update of so many bytes: the application that runs, the slot, the sector, the
+/// sequence.
 fn aimed<D: Nor>(device: &mut D, layout: &Layout, length: u32) -> Result<(App, u8, u8, u32), AimNo>
     requires idle { D.running device.old ≡ None }
     requires placed { IsPlaced layout.now 0x100000 }

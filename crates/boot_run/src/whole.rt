@@ -13,8 +13,8 @@ use crate::start::app_on;
 use nor_device::{Nor, NorFault};
 use partition_table::{App, Layout};
 
-/// Whether the partition of each application holds a whole image: places 0 to 15 are the update slots,
-/// 16 the factory application, 17 the test application. Each is verified once.
+/// Whether the partition of each application holds a whole image: places 0 to 15 are the update
+/// slots, 16 the factory application, 17 the test application. Each is verified once.
 pub(crate) fn whole_on<D: Nor>(device: &mut D, layout: &Layout) -> Result<[bool; 18], NorFault>
     requires idle { D.running device.old ≡ None }
     requires on { D.off device.old ≡ false }

@@ -1,4 +1,4 @@
-use Rattle.std.proofs.Common.{◌≡◌, Some, None, IfSome, Result, Ok, Err, IfOk, subst, sym}
+use Rattle.std.proofs.Common.{IfSome, Result, Ok, Err, IfOk, subst, sym}
 use Rattle.std.specs.Result.{result_ok}
 use Rattle.partition_table.specs.declared.bad.TableBad.{TableBad}
 use Rattle.partition_table.specs.Layout.{IsPlaced, Places}
