@@ -5,6 +5,7 @@ ghost use Rattle.core_state.specs.Registers.{starting};
 ghost use Rattle.bus_hub.specs.declared.did.Base.{Base};
 ghost use Rattle.bus_hub.specs.declared.did.Did.{Did};
 ghost use Rattle.bus_hub.specs.Room.{empty_journal};
+ghost use Rattle.bus_hub.specs.Legal.{IsLegal};
 ghost use Rattle.bus_hub.specs.Told.{IsSafe};
 ghost use Rattle.bus_hub.specs.Hub.{Hub, Stands, IsBaseOf, IsTold, opened, record_of, core_of};
 
@@ -109,13 +110,25 @@ impl<D: Crash, K: Duty> Bus<D, K> {
         bus
     }
 
-    /// Gives device, journal and duty back.
-    pub fn into_parts(self) -> (D, Journal, K)
+    /// The parts.
+    fn split(self) -> (D, Journal, K)
         requires idle { self.running ≡ None }
         ensures exact { result ≡ (self.dev, self.journal, self.duty) }
         ensures idle { D.running result.0 ≡ None }
     {
         (self.dev, self.journal, self.duty)
+    }
+
+    /// Gives device, journal and duty back. The journal is legal, and no step is open at its end.
+    pub fn into_parts(self) -> (D, Journal, K)
+        requires idle { self.running ≡ None }
+        ensures exact { result ≡ (self.dev, self.journal, self.duty) }
+        ensures idle { D.running result.0 ≡ None }
+        ensures legal { (b : Base D.Setting K) (left right : List Did)
+            → ⟦<Bus<D, K> as Records>⟧.stands self b left right → IsLegal result.1.entries }
+    {
+        self.legal();
+        self.split()
     }
 
     /// The duty.

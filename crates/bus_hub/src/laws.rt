@@ -2,6 +2,7 @@
 
 ghost use Rattle.std.specs.Prelude.{◌≡◌, ℕ, ◌+◌, ◌<◌, ◌≤◌, List, None, length};
 ghost use Rattle.core_state.specs.Sharing.{in_order};
+ghost use Rattle.nor_device.specs.declared.step.Step.{Step};
 ghost use Rattle.bus_hub.specs.declared.did.Base.{Base};
 ghost use Rattle.bus_hub.specs.declared.did.Did.{Did};
 ghost use Rattle.bus_hub.specs.Room.{HasRoom};
@@ -36,6 +37,10 @@ impl<D: Crash, K: Duty> Bus<D, K> {
             → in_order (⟦<Bus<D, K> as Records>⟧.stands self.now b) c mine theirs
             → needs mine + n ≤ (room_of b c).entries → byte_needs mine + m ≤ (room_of b c).bytes
             → HasRoom self.now.journal (owed self.now.running + n) m }
+        ensures may { (b : Base D.Setting K) (c : ℕ) (mine theirs : List Did) (step : Step) → c < 2
+            → in_order (⟦<Bus<D, K> as Records>⟧.stands self.now b) c mine theirs
+            → K.grants (moved_by K.moved (K.part b.duty c) (made mine)) step
+            → K.grants (K.part self.now.duty c) step }
     {}
 
     /// The journal is legal, and each fetch shows the bytes of the flash as it was then.

@@ -50,7 +50,7 @@ fn a_step_leaves_its_begin_and_its_end(rt: HostRuntime) -> Result<(), Fail> {
     let alloc = rt.alloc();
     let dev = RamNor::of_bytes(filled(alloc, 0, SIZE)?, 2);
     let room = Room {
-        entries: 2,
+        entries: 1,
         bytes: 0,
     };
     let journal = Journal::with_room(alloc, [room, room])?;
