@@ -34,7 +34,8 @@ first_app images apps None first = sym (ap app_of first)
 first_app images apps (Some started) first = sym (ap app_of first.is)
 
 -- so by it runs what the images tell
-started_runs : (layout : Places) (images : Images) (e0 e1 : Entry) (started : Option (App × ImageInfo))
+started_runs : (layout : Places) (images : Images) (e0 e1 : Entry)
+    (started : Option (App × ImageInfo))
     → IsStart layout (named_of layout e0 e1)
     → IsFirst images (candidates layout (named_of layout e0 e1)) started
     → settled_by (waiting_of e0 e1) (named_of layout e0 e1) (app_started started)
@@ -43,16 +44,23 @@ unfolding settled_of
 started_runs layout images e0 e1 started start first =
     ap (settled_by (waiting_of e0 e1) (named_of layout e0 e1))
     (first_app images (candidates layout (named_of layout e0 e1)) started first
-    ∙ sym (started-held layout (has_image images) images (named_of layout e0 e1) (λ app found. refl) start))
+    ∙ sym (started-held layout (has_image images) images (named_of layout e0 e1) (λ app found. refl)
+    start))
 
 -- what is told of its image
 started_info : (images : Images) (apps : List App) (started : Option (App × ImageInfo)) (app : App)
-    (info : ImageInfo) → started ≡ Some (app, info) → IsFirst images apps started → HasInfo (images app) info
+    (info : ImageInfo) → started ≡ Some (app, info) → IsFirst images apps started
+    → HasInfo (images app) info
 started_info images apps None app info is first = absurd cc
 started_info images apps (Some found) app info is first =
     let same : found ≡ (app, info) = cc in
     subst (λ (p : App × ImageInfo). HasInfo (images p.0) p.1) same
-    (record { bytes = first.image; is = first_holds images apps found.0 first.image first.is; told = first.told })
+    (record {
+      bytes = first.image;
+      is = first_holds images apps found.0 first.image first.is;
+      told =
+          first.told;
+    })
 
 -- what is aimed at by entries and images
 aims_at : (layout : Places) (images : Images) (entries : ℕ → Entry) (e0 e1 : Entry) (long : ℕ)
@@ -66,35 +74,46 @@ aims_at : (layout : Places) (images : Images) (entries : ℕ → Entry) (e0 e1 :
 aims_at layout images entries e0 e1 long started (Ok aim) zeroth other start first ok err = record {
   runs = sym (λ i. settled_of layout (has_image images) (zeroth i) (other i))
       ∙ sym (started_runs layout images e0 e1 started start first) ∙ ok.runs;
-  info = started_info images (candidates layout (named_of layout e0 e1)) started aim.running aim.info ok.info first;
+  info = started_info images (candidates layout (named_of layout e0 e1)) started aim.running
+      aim.info ok.info first;
   slot = ok.slot ∙ (λ i. target_of layout (zeroth i) (other i) aim.running);
   next = sym (λ i. aim_at layout (zeroth i) (other i) aim.running long aim.slot) ∙ ok.next;
   length = ok.length;
 }
 aims_at layout images entries e0 e1 long started (Err why) zeroth other start first ok err =
-    sym (λ i. aim_by layout (zeroth i) (other i) long (settled_of layout (has_image images) (zeroth i) (other i)))
-    ∙ sym (ap (aim_by layout e0 e1 long) (started_runs layout images e0 e1 started start first)) ∙ err
+    sym (λ i. aim_by layout (zeroth i) (other i) long
+    (settled_of layout (has_image images) (zeroth i) (other i)))
+    ∙ sym (ap (aim_by layout e0 e1 long) (started_runs layout images e0 e1 started start first))
+    ∙ err
 
 -- of a device that tells its bytes
-pub told_aims : (layout : Places) (e0 e1 : Entry) (apps : List App) (long : ℕ) (old mid : Option (List ℕ))
+pub told_aims : (layout : Places) (e0 e1 : Entry) (apps : List App) (long : ℕ)
+    (old mid : Option (List ℕ))
     (started : Option (App × ImageInfo)) (r : Result Aim Unfit)
-    → IfSome old (λ flash. e0 ≡ entries_in layout flash 0) → IfSome old (λ flash. e1 ≡ entries_in layout flash 1)
-    → IsStart layout (named_of layout e0 e1) → apps ≡ candidates layout (named_of layout e0 e1) → mid ≡ old
+    → IfSome old (λ flash. e0 ≡ entries_in layout flash 0)
+    → IfSome old (λ flash. e1 ≡ entries_in layout flash 1)
+    → IsStart layout (named_of layout e0 e1) → apps ≡ candidates layout (named_of layout e0 e1)
+    → mid ≡ old
     → IfSome mid (λ flash. IsFirst (images_in held layout flash) apps started)
     → IfOk r (IsAimedBy layout e0 e1 started long)
     → IfErr r (λ why. aim_by layout e0 e1 long
     (settled_by (waiting_of e0 e1) (named_of layout e0 e1) (app_started started)) ≡ Err why)
-    → IfSome old (λ flash. AimsAt layout (images_in held layout flash) (entries_in layout flash) long r)
+    → IfSome old (λ flash. AimsAt layout (images_in held layout flash) (entries_in layout flash)
+    long r)
 told_aims layout e0 e1 apps long None mid started r zeroth other start all same first ok err = tt
-told_aims layout e0 e1 apps long (Some flash) mid started r zeroth other start all same first ok err =
-    let on = subst (λ (m : Option (List ℕ)). IfSome m (λ f. IsFirst (images_in held layout f) apps started)) same first in
-    aims_at layout (images_in held layout flash) (entries_in layout flash) e0 e1 long started r zeroth other start
+told_aims layout e0 e1 apps long (Some flash) mid started r zeroth other start all same first ok err
+    =
+    let on = subst (λ (m : Option (List ℕ)). IfSome m
+    (λ f. IsFirst (images_in held layout f) apps started)) same first in
+    aims_at layout (images_in held layout flash) (entries_in layout flash) e0 e1 long started r
+    zeroth other start
     (subst (λ l. IsFirst (images_in held layout flash) l started) all on) ok err
 
 -- ---- what an aim says of the update
 
 -- what lets an image of so many bytes be written to a slot
-record Allowed (layout : Places) (e0 e1 : Entry) (running : App) (long slot : ℕ) (next : NextEntry) : Type 0 where
+record Allowed (layout : Places) (e0 e1 : Entry) (running : App) (long slot : ℕ) (next : NextEntry)
+    : Type 0 where
   apart : running ≢ Ota slot
   row : Row
   row_is : slice_get layout.slots slot ≡ Some row
@@ -107,7 +126,8 @@ allowed : (layout : Places) (e0 e1 : Entry) (running : App) (long slot : ℕ) (n
     → aim_at layout e0 e1 running long slot ≡ Ok next → Allowed layout e0 e1 running long slot next
 allowed layout e0 e1 running long slot next is = same (cases_Bool (is_same running (Ota slot))) is
   where
-    fit : (row : Row) (found : NextEntry) → (nat_lt row.size long ≡ true) ⊎ (nat_lt row.size long ≡ false)
+    fit : (row : Row) (found : NextEntry) → (nat_lt row.size long ≡ true)
+        ⊎ (nat_lt row.size long ≡ false)
         → aim_next long row (Ok found) ≡ Ok next → (found ≡ next) × (long ≤ row.size)
     fit row found (inl p) ok = let err = rw p at ok in absurd cc
     fit row found (inr p) ok = let done = rw p at ok in (cc, grind (arith, nat_tests))
@@ -141,7 +161,8 @@ allowed layout e0 e1 running long slot next is = same (cases_Bool (is_same runni
     rowed (Some row) found apart ok = flagged row found apart (cases_Bool (row.flags % 4 == 0)) ok
 
     same : (is_same running (Ota slot) ≡ true) ⊎ (is_same running (Ota slot) ≡ false)
-        → aim_at layout e0 e1 running long slot ≡ Ok next → Allowed layout e0 e1 running long slot next
+        → aim_at layout e0 e1 running long slot ≡ Ok next → Allowed layout e0 e1 running long slot
+        next
     same (inl p) ok = let err = rw p at ok in absurd cc
     same (inr p) ok =
         rowed (slice_get layout.slots slot) refl
@@ -149,10 +170,13 @@ allowed layout e0 e1 running long slot next is = same (cases_Bool (is_same runni
 
 -- an aim begins an update
 pub aim_begins : (layout : Places) (images : Images) (entries : ℕ → Entry) (long : ℕ) (aim : Aim)
-    → 0 < length layout.slots → IsAimed layout images entries long aim → Begins layout images entries aim
+    → 0 < length layout.slots → IsAimed layout images entries long aim
+    → Begins layout images entries aim
 aim_begins layout images entries long aim some aimed =
-    let settled = (settled-images layout (has_image images) images entries aim.running (λ app found. refl) some).0 aimed.runs in
-    let may = allowed layout (entries 0) (entries 1) aim.running long aim.slot aim.next aimed.next in
+    let settled = (settled-images layout (has_image images) images entries aim.running
+    (λ app found. refl) some).0 aimed.runs in
+    let may = allowed layout (entries 0) (entries 1) aim.running long aim.slot aim.next aimed.next
+    in
     record {
       image = settled.0;
       settled = settled.1;

@@ -45,18 +45,21 @@ in_state_same es y k is = at (cases_Bool (k == y))
     at (inr p) = rw p refl
 
 -- where the active entry is VALID, or has been made so, its application boots
-left_confirmed : (layout : Places) (flash : List ℕ) (y : ℕ) (image : List ℕ) (done : Bool) → IsPlaced layout (length flash)
+left_confirmed : (layout : Places) (flash : List ℕ) (y : ℕ) (image : List ℕ) (done : Bool)
+    → IsPlaced layout (length flash)
     → y < 2 → IsStored (entries_in layout flash y)
     → ((entries_in layout flash y).state == 2) ≡ done
     → active_of (entries_in layout flash 0) (entries_in layout flash 1) ≡ Some y
     → images_in held layout flash (slot_app layout (entries_in layout flash y)) ≡ Some image
-    → boots_in held layout (after_steps flash (rewrites layout.otadata (writes_of (one_of {E = NoOtaApp}
+    → boots_in held layout (after_steps flash
+    (rewrites layout.otadata (writes_of (one_of {E = NoOtaApp}
     (Ok (if done then None else Some (restated 2 y (entries_in layout flash y))))))))
     ≡ Some (slot_app layout (entries_in layout flash y), image)
 left_confirmed layout flash y image true placed two stored is active holds =
     let es = entries_in layout flash in
     let valid : (es y).state ≡ 2 = grind (arith, nat_tests) in
-    boots_same layout (images_in held layout flash) (in_state 2 y es) es (in_state_same es y 0 valid)
+    boots_same layout (images_in held layout flash) (in_state 2 y es) es
+    (in_state_same es y 0 valid)
     (in_state_same es y 1 valid)
     ∙ confirmed_boots layout (images_in held layout flash) es y image two active holds
 left_confirmed layout flash y image false placed two stored is active holds =
@@ -64,11 +67,18 @@ left_confirmed layout flash y image false placed two stored is active holds =
     let write = restated 2 y (es y) in
     let left = after_steps flash (rewrite layout.otadata write) in
     let written : IsStored write.entry = record {
-      sized = record { seq = stored.sized.seq; label = stored.sized.label; state = lit< tt; crc = stored.sized.crc };
+      sized = record {
+        seq = stored.sized.seq;
+        label = stored.sized.label;
+        state = lit< tt;
+        crc =
+            stored.sized.crc;
+      };
       label = stored.label;
     } in
     let images : images_in held layout left ≡ images_in held layout flash =
-    left_images held layout (length flash) flash left (write ∷ []) placed ((two, omega (arith, stored.sized.label)), tt)
+    left_images held layout (length flash) flash left (write ∷ []) placed
+    ((two, omega (arith, stored.sized.label)), tt)
     (left_end flash (rewrites layout.otadata (write ∷ []))) in
     ap (λ h. boots layout h (entries_in layout left)) images
     ∙ boots_same layout (images_in held layout flash) (in_state 2 y es) (entries_in layout left)
@@ -79,10 +89,12 @@ left_confirmed layout flash y image false placed two stored is active holds =
 -- what is told of a confirmation tells which application boots now
 confirmed_told : (layout : Places) (flash : List ℕ) (told : Told) → IsPlaced layout (length flash)
     → IsStored (entries_in layout flash 0) → IsStored (entries_in layout flash 1)
-    → Answers layout.otadata (named_of layout (entries_in layout flash 0) (entries_in layout flash 1))
+    → Answers layout.otadata (named_of layout (entries_in layout flash 0)
+    (entries_in layout flash 1))
     (confirmation (entries_in layout flash)) (Ok told)
     → (image : List ℕ) → images_in held layout flash (Ota told.slot) ≡ Some image
-    → boots_in held layout (after_steps flash (rewrites layout.otadata (writes_of (confirmation (entries_in layout flash)))))
+    → boots_in held layout (after_steps flash
+    (rewrites layout.otadata (writes_of (confirmation (entries_in layout flash)))))
     ≡ Some (Ota told.slot, image)
 unfolding confirm_of named_of
 confirmed_told layout flash told placed first second answers image holds =
@@ -91,65 +103,85 @@ confirmed_told layout flash told placed first second answers image holds =
     es : ℕ → Entry
     es = entries_in layout flash
 
-    by : (y : ℕ) (e : Entry) → y < 2 → e ≡ entries_in layout flash y → IsStored (entries_in layout flash y)
+    by : (y : ℕ) (e : Entry) → y < 2 → e ≡ entries_in layout flash y
+        → IsStored (entries_in layout flash y)
         → active_of (entries_in layout flash 0) (entries_in layout flash 1) ≡ Some y
         → (slot_app layout e ≡ Ota told.slot)
-        → boots_in held layout (after_steps flash (rewrites layout.otadata (writes_of (one_of {E = NoOtaApp}
+        → boots_in held layout (after_steps flash
+        (rewrites layout.otadata (writes_of (one_of {E = NoOtaApp}
         (Ok (if e.state == 2 then None else Some (restated 2 y e)))))))
         ≡ Some (Ota told.slot, image)
     by y e two is stored active named =
         let app : slot_app layout (entries_in layout flash y) ≡ Ota told.slot =
         ap (slot_app layout) (sym is) ∙ named in
-        ap (λ x. boots_in held layout (after_steps flash (rewrites layout.otadata (writes_of (one_of {E = NoOtaApp}
+        ap (λ x. boots_in held layout
+        (after_steps flash (rewrites layout.otadata (writes_of (one_of {E = NoOtaApp}
         (Ok (if x.state == 2 then None else Some (restated 2 y x)))))))) is
-        ∙ left_confirmed layout flash y image ((entries_in layout flash y).state == 2) placed two stored refl active
+        ∙ left_confirmed layout flash y image ((entries_in layout flash y).state == 2) placed two
+        stored refl active
         (ap (images_in held layout flash) app ∙ holds)
         ∙ ap (λ a. Some (a, image)) app
 
-    slot : {E : Type 0} (named : App) (r : Result (List Rewrite) E) → Answers layout.otadata named r (Ok told)
+    slot : {E : Type 0} (named : App) (r : Result (List Rewrite) E) → Answers layout.otadata named r
+        (Ok told)
         → named ≡ Ota told.slot
     slot named (Ok ws) tells = tells.slot
     slot named (Err why) tells = absurd tells
 
-    at : (active : Option ℕ) → active_of (entries_in layout flash 0) (entries_in layout flash 1) ≡ active
+    at : (active : Option ℕ) → active_of (entries_in layout flash 0) (entries_in layout flash 1)
+        ≡ active
         → IfSome active (λ number. number < 2)
-        → Answers layout.otadata (named_by layout (entries_in layout flash 0) (entries_in layout flash 1) active)
-        (one_of (confirm_by (sectors (entries_in layout flash 0) (entries_in layout flash 1)) active)) (Ok told)
+        → Answers layout.otadata (named_by layout (entries_in layout flash 0)
+        (entries_in layout flash 1) active)
+        (one_of (confirm_by (sectors (entries_in layout flash 0) (entries_in layout flash 1))
+        active)) (Ok told)
         → boots_in held layout (after_steps flash (rewrites layout.otadata (writes_of
-        (one_of (confirm_by (sectors (entries_in layout flash 0) (entries_in layout flash 1)) active)))))
+        (one_of (confirm_by (sectors (entries_in layout flash 0) (entries_in layout flash 1))
+        active)))))
         ≡ Some (Ota told.slot, image)
     at None is two tells = absurd tells
     at (Some zero) is two tells =
         by 0 (entries_in layout flash 0) two refl first is
-        (slot (slot_app layout (entries_in layout flash 0)) (one_of (confirm_by (sectors (entries_in layout flash 0)
+        (slot (slot_app layout (entries_in layout flash 0))
+        (one_of (confirm_by (sectors (entries_in layout flash 0)
         (entries_in layout flash 1)) (Some zero))) tells)
     at (Some (suc n)) is two tells =
         let one : suc n ≡ 1 = omega arith in
         by (suc n) (entries_in layout flash 1) two (ap (entries_in layout flash) (sym one))
         (subst (λ k. IsStored (entries_in layout flash k)) (sym one) second) is
-        (slot (slot_app layout (entries_in layout flash 1)) (one_of (confirm_by (sectors (entries_in layout flash 0)
+        (slot (slot_app layout (entries_in layout flash 1))
+        (one_of (confirm_by (sectors (entries_in layout flash 0)
         (entries_in layout flash 1)) (Some (suc n)))) tells)
 
 -- of a device that tells its bytes
 pub told_confirmed : (layout : Places) (size : ℕ) (e0 e1 : Entry) (old new : Option (List ℕ))
     (answer : Result (Result Told NoOtaApp) NorFault) → IsPlaced layout size
     → ((flash : List ℕ) → old ≡ Some flash → length flash ≡ size)
-    → IfSome old (λ flash. e0 ≡ entries_in layout flash 0) → IfSome old (λ flash. e1 ≡ entries_in layout flash 1)
+    → IfSome old (λ flash. e0 ≡ entries_in layout flash 0)
+    → IfSome old (λ flash. e1 ≡ entries_in layout flash 1)
     → IsStored e0 → IsStored e1
-    → OnOk answer (IsAfterAll (rewrites layout.otadata (writes_of (one_of (confirm_of e0 e1)))) old new)
+    → OnOk answer (IsAfterAll (rewrites layout.otadata (writes_of (one_of (confirm_of e0 e1)))) old
+    new)
     → IfOk answer (Answers layout.otadata (named_of layout e0 e1) (one_of (confirm_of e0 e1)))
     → BootsTold layout old new answer
-told_confirmed layout size e0 e1 old new (Err why) placed sized first second one two all answers = all
-told_confirmed layout size e0 e1 old new (Ok (Err why)) placed sized first second one two all answers = tt
-told_confirmed layout size e0 e1 None new (Ok (Ok told)) placed sized first second one two all answers = tt
-told_confirmed layout size e0 e1 (Some flash) new (Ok (Ok told)) placed sized first second one two all answers =
+told_confirmed layout size e0 e1 old new (Err why) placed sized first second one two all answers =
+    all
+told_confirmed layout size e0 e1 old new (Ok (Err why)) placed sized first second one two all
+    answers = tt
+told_confirmed layout size e0 e1 None new (Ok (Ok told)) placed sized first second one two all
+    answers = tt
+told_confirmed layout size e0 e1 (Some flash) new (Ok (Ok told)) placed sized first second one two
+    all answers =
     let f0 = entries_in layout flash 0 in
     let f1 = entries_in layout flash 1 in
-    let left = after_steps flash (rewrites layout.otadata (writes_of (one_of (confirm_of f0 f1)))) in
+    let left = after_steps flash (rewrites layout.otadata (writes_of (one_of (confirm_of f0 f1))))
+    in
     let is : new ≡ Some left = all ∙ (λ i. Some (after_steps flash (rewrites layout.otadata
     (writes_of (one_of (confirm_of (first i) (second i))))))) in
-    let here = subst (λ a. Answers layout.otadata (named_of layout a f1) (one_of (confirm_of a f1)) (Ok told)) first
-    (subst (λ b. Answers layout.otadata (named_of layout e0 b) (one_of (confirm_of e0 b)) (Ok told)) second answers) in
+    let here = subst (λ a. Answers layout.otadata (named_of layout a f1) (one_of (confirm_of a f1))
+    (Ok told)) first
+    (subst (λ b. Answers layout.otadata (named_of layout e0 b) (one_of (confirm_of e0 b)) (Ok told))
+    second answers) in
     λ image holds. (
       left,
       is,

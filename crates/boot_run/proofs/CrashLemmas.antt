@@ -20,14 +20,17 @@ use Rattle.boot_run.proofs.FrameLemmas.{left_images, left_other}
 use Rattle.boot_run.proofs.WritesLemmas.{AreRewrites}
 
 -- the label of an entry of a flash is no longer than an entry's
-pub label_short : (layout : Places) (flash : List ℕ) (y : ℕ) → length (entries_in layout flash y).label ≤ 20
+pub label_short : (layout : Places) (flash : List ℕ) (y : ℕ)
+    → length (entries_in layout flash y).label ≤ 20
 unfolding entry_of
 label_short layout flash y =
     omega (arith, length-take 20 (drop 4 (take 32 (drop (layout.otadata + 4096 * y) flash))))
 
 -- of what is left in a rewrite boots what a verdict gives, or the entry matches by chance
-restated_verdict : (layout : Places) (size : ℕ) (flash left : List ℕ) (y state : ℕ) → IsPlaced layout size
-    → y < 2 → LeftAfter flash (rewrite layout.otadata (restated state y (entries_in layout flash y))) left
+restated_verdict : (layout : Places) (size : ℕ) (flash left : List ℕ) (y state : ℕ)
+    → IsPlaced layout size
+    → y < 2 → LeftAfter flash
+    (rewrite layout.otadata (restated state y (entries_in layout flash y))) left
     → LeavesVerdict layout flash (restated state y (entries_in layout flash y)) left
 restated_verdict layout size flash left y state placed two after =
     let write = restated state y (entries_in layout flash y) in
@@ -36,13 +39,18 @@ restated_verdict layout size flash left y state placed two after =
     left_images held layout size flash left (write ∷ []) placed ((two, short), tt)
     (subst (λ steps. LeftAfter flash steps left) (sym refl) after) in
     let other = left_other layout flash left write placed.aligned two short after in
-    subst (λ h. IsChance (entries_in layout flash y) (with_state state (entries_in layout flash y)) (entries_in layout left y)
-    ⊎ BootsByVerdict layout (images_in held layout flash) (entries_in layout flash) y (boots layout h (entries_in layout left)))
+    subst (λ h. IsChance (entries_in layout flash y) (with_state state (entries_in layout flash y))
+    (entries_in layout left y)
+    ⊎ BootsByVerdict layout (images_in held layout flash) (entries_in layout flash) y
+    (boots layout h (entries_in layout left)))
     (sym images)
-    (verdict-or_chance layout (images_in held layout flash) (entries_in layout flash) (entries_in layout left) y state two other)
+    (verdict-or_chance layout (images_in held layout flash) (entries_in layout flash)
+    (entries_in layout left) y state two other)
 
-pub left_verdict : (layout : Places) (size : ℕ) (flash left : List ℕ) (write : Rewrite) → IsPlaced layout size
-    → IsRestated (entries_in layout flash) write → LeftAfter flash (rewrite layout.otadata write) left
+pub left_verdict : (layout : Places) (size : ℕ) (flash left : List ℕ) (write : Rewrite)
+    → IsPlaced layout size
+    → IsRestated (entries_in layout flash) write → LeftAfter flash (rewrite layout.otadata write)
+    left
     → LeavesVerdict layout flash write left
 left_verdict layout size flash left write placed is after =
     subst (λ w. LeavesVerdict layout flash w left) (sym is.is)
@@ -57,7 +65,8 @@ AreRestatedOn layout flash (write ∷ writes) =
     × AreRestatedOn layout (after_steps flash (rewrite layout.otadata write)) writes
 
 -- so does each rewrite of a boot
-pub boot_restated : (layout : Places) (size : ℕ) (flash : List ℕ) (writes : List Rewrite) → IsPlaced layout size
+pub boot_restated : (layout : Places) (size : ℕ) (flash : List ℕ) (writes : List Rewrite)
+    → IsPlaced layout size
     → AreRewrites (entries_in layout flash) writes → AreRestatedOn layout flash writes
 boot_restated layout size flash [] placed are = tt
 boot_restated layout size flash (w ∷ []) placed are = (are, tt)
@@ -66,9 +75,12 @@ boot_restated layout size flash (w ∷ v ∷ []) placed are =
     let label : length w.entry.label ≤ 20 =
     (let same = ap (λ (x : Rewrite). length x.entry.label) are.0.is in
     let short = label_short layout flash w.sector in omega arith) in
-    let other = left_other layout flash (after_steps flash steps) w placed.aligned are.0.two label (left_end flash steps) in
-    let same : entries_in layout (after_steps flash steps) v.sector ≡ entries_in layout flash v.sector =
-    subst (λ y. entries_in layout (after_steps flash steps) y ≡ entries_in layout flash y) (sym are.2) other in (
+    let other = left_other layout flash (after_steps flash steps) w placed.aligned are.0.two label
+    (left_end flash steps) in
+    let same : entries_in layout (after_steps flash steps) v.sector ≡ entries_in layout flash
+    v.sector =
+    subst (λ y. entries_in layout (after_steps flash steps) y ≡ entries_in layout flash y)
+    (sym are.2) other in (
       are.0,
       (
         record {
@@ -83,36 +95,47 @@ boot_restated layout size flash (w ∷ v ∷ []) placed are =
 boot_restated layout size flash (w ∷ v ∷ u ∷ ws) placed are = absurd are
 
 -- of what is left of rewrites boots what a verdict on one of them gives
-pub left_verdicts : (layout : Places) (size : ℕ) (flash left : List ℕ) (writes : List Rewrite) → IsPlaced layout size
+pub left_verdicts : (layout : Places) (size : ℕ) (flash left : List ℕ) (writes : List Rewrite)
+    → IsPlaced layout size
     → AreRestatedOn layout flash writes → LeftAfter flash (rewrites layout.otadata writes) left
     → LeavesVerdicts layout flash writes left
 left_verdicts layout size flash left [] placed are after = left_none flash left after
 left_verdicts layout size flash left (write ∷ writes) placed are after =
-    elim (left_append flash (rewrite layout.otadata write) (rewrites layout.otadata writes) left after) [
+    elim (left_append flash (rewrite layout.otadata write) (rewrites layout.otadata writes) left
+    after) [
       | inl here ↦ inl (left_verdict layout size flash left write placed are.0 here)
-      | inr later ↦ inr (left_verdicts layout size (after_steps flash (rewrite layout.otadata write)) left writes placed are.1 later)
+      | inr later ↦ inr (left_verdicts layout size
+          (after_steps flash (rewrite layout.otadata write)) left writes placed are.1 later)
     ]
 
 -- where an application boots, one boots at every moment of rewrites
-pub left_boots : (layout : Places) (size : ℕ) (flash left : List ℕ) (writes : List Rewrite) → IsPlaced layout size
+pub left_boots : (layout : Places) (size : ℕ) (flash left : List ℕ) (writes : List Rewrite)
+    → IsPlaced layout size
     → AreShort writes → LeftAfter flash (rewrites layout.otadata writes) left
     → boots_in held layout flash ≢ None → boots_in held layout left ≢ None
 left_boots layout size flash left writes placed short after some =
     subst (λ h. boots layout h (entries_in layout left) ≢ None)
     (sym (left_images held layout size flash left writes placed short after))
-    (still_boots layout (images_in held layout flash) (entries_in layout flash) (entries_in layout left)
+    (still_boots layout (images_in held layout flash) (entries_in layout flash)
+    (entries_in layout left)
     (images_are_placed held layout flash) some)
 
 -- ---- the same of a device that tells its bytes
 
 -- a boot that was broken off
-pub told_verdicts : (layout : Places) (size : ℕ) (writes : List ℕ → List Rewrite) (old new : Option (List ℕ))
-    → IsPlaced layout size → ((flash : List ℕ) → old ≡ Some flash → AreRestatedOn layout flash (writes flash))
+pub told_verdicts : (layout : Places) (size : ℕ) (writes : List ℕ → List Rewrite)
+    (old new : Option (List ℕ))
+    → IsPlaced layout size → ((flash : List ℕ) → old ≡ Some flash → AreRestatedOn layout flash
+    (writes flash))
     → IfSome old (λ flash. IsLeftOf (rewrites layout.otadata (writes flash)) old new)
     → IsLeftByVerdicts layout writes old new
 told_verdicts layout size writes None new placed are left = tt
-told_verdicts layout size writes (Some flash) new placed are left =
-    (left.0, left.1, left_verdicts layout size flash left.0 (writes flash) placed (are flash refl) left.2)
+told_verdicts layout size writes (Some flash) new placed are left = (
+  left.0,
+  left.1,
+  left_verdicts layout size flash left.0 (writes flash) placed (are flash refl)
+      left.2,
+)
 
 -- and an application that boots of what is left
 pub told_boots : (layout : Places) (size : ℕ) (writes : List Rewrite) (old new : Option (List ℕ))

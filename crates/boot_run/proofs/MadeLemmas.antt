@@ -110,7 +110,8 @@ module _ {S : Type 0} (may_end : S → ℕ → StepEnd → Type 0)
       → IsMissed may_end may_tear may_refuse must_refuse set step count now old new why
       → Missed set (step ∷ []) count now old new why
   missed_one set step count now old new why (inl refused) =
-      missed_none set (step ∷ []) count now old new why refused.steps_same refused.bytes_same refused.allowed
+      missed_none set (step ∷ []) count now old new why refused.steps_same refused.bytes_same
+      refused.allowed
   missed_one set step count now old new why (inr broken) = record {
     made = [];
     rest = step ∷ [];
@@ -120,7 +121,8 @@ module _ {S : Type 0} (may_end : S → ℕ → StepEnd → Type 0)
       begun = broken.begun;
       counted = broken.counted;
       ended = subst (λ n. may_end set n (end_by why)) (sym broken.counted) broken.ended;
-      left = subst (λ n. IfSome old (λ flash. (left : List ℕ) × (new ≡ Some left) × Torn flash step left
+      left = subst (λ n. IfSome old (λ flash. (left : List ℕ) × (new ≡ Some left)
+          × Torn flash step left
           × may_tear set n flash step left)) (sym broken.counted) broken.left;
     });
   }
@@ -132,7 +134,8 @@ module _ {S : Type 0} (may_end : S → ℕ → StepEnd → Type 0)
   missed_front set front back count now old new why missed = record {
     made = missed.made;
     rest = missed.rest ++ back;
-    split = ap (λ (l : List Step). l ++ back) missed.split ∙ append_assoc missed.made missed.rest back;
+    split = ap (λ (l : List Step). l ++ back) missed.split ∙ append_assoc missed.made missed.rest
+        back;
     each = missed.each;
     stops = longer missed.rest back missed.stops;
   }
@@ -150,17 +153,21 @@ module _ {S : Type 0} (may_end : S → ℕ → StepEnd → Type 0)
   missed_back set front back count mid now old told new why one missed = record {
     made = front ++ missed.made;
     rest = missed.rest;
-    split = ap (λ (l : List Step). front ++ l) missed.split ∙ sym (append_assoc front missed.made missed.rest);
+    split = ap (λ (l : List Step). front ++ l) missed.split
+        ∙ sym (append_assoc front missed.made missed.rest);
     each = each_append set count front missed.made one.each
         (subst (λ n. Each set n missed.made) one.counted missed.each);
     stops = stops missed.rest missed.stops;
   }
     where
       number : count_after mid missed.made ≡ count_after count (front ++ missed.made)
-      number = ap (λ n. count_after n missed.made) one.counted ∙ sym (count_append count front missed.made)
+      number = ap (λ n. count_after n missed.made) one.counted
+          ∙ sym (count_append count front missed.made)
 
-      refused : IsRefusedAfter may_end may_tear may_refuse must_refuse set missed.made mid now told new why
-          → IsRefusedAfter may_end may_tear may_refuse must_refuse set (front ++ missed.made) count now old new why
+      refused : IsRefusedAfter may_end may_tear may_refuse must_refuse set missed.made mid now told
+          new why
+          → IsRefusedAfter may_end may_tear may_refuse must_refuse set (front ++ missed.made) count
+          now old new why
       refused r = record {
         counted = r.counted ∙ number;
         allowed = r.allowed;
@@ -176,7 +183,8 @@ module _ {S : Type 0} (may_end : S → ℕ → StepEnd → Type 0)
           × may_tear set now (after_steps flash (front ++ missed.made)) step left)
       moved step None mid' all left = tt
       moved step (Some flash) mid' all left =
-          let on = subst (λ (m : Option (List ℕ)). IfSome m (λ flash. (left : List ℕ) × (new ≡ Some left)
+          let on = subst (λ (m : Option (List ℕ)). IfSome m
+          (λ flash. (left : List ℕ) × (new ≡ Some left)
           × Torn (after_steps flash missed.made) step left
           × may_tear set now (after_steps flash missed.made) step left)) all left in
           subst (λ (f : List ℕ). (left : List ℕ) × (new ≡ Some left) × Torn f step left
@@ -221,7 +229,8 @@ module _ {S : Type 0} (may_end : S → ℕ → StepEnd → Type 0)
       made_one set step count now old new begun ended counted bytes
   on_made_one set step count now old new (Err why) begun ended counted bytes = begun
 
-  pub on_missed_one : {T : Type 0} (set : S) (step : Step) (count now : ℕ) (old new : Option (List ℕ))
+  pub on_missed_one : {T : Type 0} (set : S) (step : Step) (count now : ℕ)
+      (old new : Option (List ℕ))
       (r : Result T NorFault)
       → IfErr r (IsMissed may_end may_tear may_refuse must_refuse set step count now old new)
       → IfErr r (Missed set (step ∷ []) count now old new)
@@ -241,9 +250,11 @@ module _ {S : Type 0} (may_end : S → ℕ → StepEnd → Type 0)
       subst (λ (l : List Step). IsLeftOf l old new) (sym missed.split) (by missed.rest missed.stops)
     where
       refused : (rest : List Step)
-          → IsRefusedAfter may_end may_tear may_refuse must_refuse set missed.made count now old new why
+          → IsRefusedAfter may_end may_tear may_refuse must_refuse set missed.made count now old new
+          why
           → IsLeftOf (missed.made ++ rest) old new
-      refused rest r = left_of_front missed.made rest old new (left_of_all missed.made old new r.bytes)
+      refused rest r = left_of_front missed.made rest old new
+          (left_of_all missed.made old new r.bytes)
 
       broken : (step : Step) (rest : List Step) (first : Option (List ℕ))
           → IfSome first (λ flash. (left : List ℕ) × (new ≡ Some left)
@@ -266,13 +277,19 @@ module _ {S : Type 0} (may_end : S → ℕ → StepEnd → Type 0)
 
   -- both answers, where setting, number and bytes are told of the device as it was by then
   pub made_by : {T : Type 0} (set mid_set : S) (steps : List Step) (count mid now : ℕ)
-      (old told new : Option (List ℕ)) (r : Result T NorFault) → mid_set ≡ set → mid ≡ count → told ≡ old
-      → OnOk r (Made mid_set steps mid now told new) → IfErr r (Missed mid_set steps mid now told new)
+      (old told new : Option (List ℕ)) (r : Result T NorFault) → mid_set ≡ set → mid ≡ count → told
+      ≡ old
+      → OnOk r (Made mid_set steps mid now told new)
+      → IfErr r (Missed mid_set steps mid now told new)
       → AreMadeBy may_end may_tear may_refuse must_refuse set steps count now old new r
-  made_by set mid_set steps count mid now old told new r same_set same_count same_bytes made missed =
-      subst (λ s. AreMadeBy may_end may_tear may_refuse must_refuse s steps count now old new r) same_set
-      (subst (λ c. AreMadeBy may_end may_tear may_refuse must_refuse mid_set steps c now old new r) same_count
-      (subst (λ o. AreMadeBy may_end may_tear may_refuse must_refuse mid_set steps mid now o new r) same_bytes
+  made_by set mid_set steps count mid now old told new r same_set same_count same_bytes made missed
+      =
+      subst (λ s. AreMadeBy may_end may_tear may_refuse must_refuse s steps count now old new r)
+      same_set
+      (subst (λ c. AreMadeBy may_end may_tear may_refuse must_refuse mid_set steps c now old new r)
+      same_count
+      (subst (λ o. AreMadeBy may_end may_tear may_refuse must_refuse mid_set steps mid now o new r)
+      same_bytes
       (MatchResult-from_both r (λ x. Made mid_set steps mid now told new)
       (Missed mid_set steps mid now told new) made missed)))
 

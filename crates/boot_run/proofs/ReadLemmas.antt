@@ -24,20 +24,25 @@ pub record Between (verifier : Reader) (slot : List ℕ) (done more : ℕ) : Typ
   pub within : done ≤ length slot
   pub read : HasRead verifier (length slot) (take done slot)
   pub most : AtMost (take done slot) (plan (length slot) (take done slot))
-  pub wanted : more ≡ min (min (wanted_by (take done slot) (plan (length slot) (take done slot))) (length slot - done)) 4096
+  pub wanted : more ≡ min (min (wanted_by (take done slot) (plan (length slot) (take done slot)))
+      (length slot - done)) 4096
 
 -- one piece more
 pub between_more : (before after : Reader) (slot : List ℕ) (done more next wanted : ℕ)
     → Between before slot done more
     → ((limit : ℕ) (bytes : List ℕ) → HasRead before limit bytes
     → HasRead after limit (bytes ++ take more (drop done slot)))
-    → ((limit : ℕ) (bytes : List ℕ) → HasRead after limit bytes → wanted ≡ wanted_by bytes (plan limit bytes))
+    → ((limit : ℕ) (bytes : List ℕ) → HasRead after limit bytes → wanted
+    ≡ wanted_by bytes (plan limit bytes))
     → next ≡ min (min wanted (length slot - (done + more))) 4096
     → Between after slot (done + more) next
 between_more before after slot done more next wanted b fed tells is =
-    let joined : take done slot ++ take more (drop done slot) ≡ take (done + more) slot = sym (take-add done more slot) in
-    let read = subst (HasRead after (length slot)) joined (fed (length slot) (take done slot) b.read) in
-    let few : length (take more (drop done slot)) ≤ wanted_by (take done slot) (plan (length slot) (take done slot)) =
+    let joined : take done slot ++ take more (drop done slot) ≡ take (done + more) slot = sym
+    (take-add done more slot) in
+    let read = subst (HasRead after (length slot)) joined
+    (fed (length slot) (take done slot) b.read) in
+    let few : length (take more (drop done slot)) ≤ wanted_by (take done slot)
+    (plan (length slot) (take done slot)) =
     omega (arith, length-take more (drop done slot), b.wanted) in
     record {
       within = omega (arith, b.within, b.wanted);
@@ -71,26 +76,34 @@ pub told_more : (told mid : Option (List ℕ)) (before after : Reader) (row : Ro
     → IfSome told (λ flash. Between before (slot_in flash row) done more)
     → IfSome mid (λ flash. (limit : ℕ) (bytes : List ℕ) → HasRead before limit bytes
     → HasRead after limit (bytes ++ part_of flash (row.offset + done) got))
-    → ((limit : ℕ) (bytes : List ℕ) → HasRead after limit bytes → wanted ≡ wanted_by bytes (plan limit bytes))
+    → ((limit : ℕ) (bytes : List ℕ) → HasRead after limit bytes → wanted
+    ≡ wanted_by bytes (plan limit bytes))
     → next ≡ min (min wanted (row.size - (done + more))) 4096
     → IfSome told (λ flash. Between after (slot_in flash row) (done + more) next)
-told_more None mid before after row done more got next wanted same all inside sized between fed tells is = tt
-told_more (Some flash) mid before after row done more got next wanted same all inside sized between fed tells is =
-    let on = subst (λ (m : Option (List ℕ)). IfSome m (λ f. (limit : ℕ) (bytes : List ℕ) → HasRead before limit bytes
+told_more None mid before after row done more got next wanted same all inside sized between fed
+    tells is = tt
+told_more (Some flash) mid before after row done more got next wanted same all inside sized between
+    fed tells is =
+    let on = subst (λ (m : Option (List ℕ)). IfSome m
+    (λ f. (limit : ℕ) (bytes : List ℕ) → HasRead before limit bytes
     → HasRead after limit (bytes ++ part_of f (row.offset + done) got))) same fed in
     let long = slot_long flash row (sized flash refl) in
     between_more before after (slot_in flash row) done more next wanted between
     (λ limit bytes read. subst (λ (xs : List ℕ). HasRead after limit (bytes ++ xs))
-    (ap (part_of flash (row.offset + done)) all ∙ piece_of_slot flash row done more inside) (on limit bytes read)) tells
+    (ap (part_of flash (row.offset + done)) all ∙ piece_of_slot flash row done more inside)
+    (on limit bytes read)) tells
     (is ∙ ap (λ n. min (min wanted (n - (done + more))) 4096) (sym long))
 
 -- after the last piece
 pub told_last : (told : Option (List ℕ)) (verifier : Reader) (row : Row) (done : ℕ)
     (result : Result ImageInfo BadImage) (found : Option ImageInfo) → found ≡ result_ok result
     → IfSome told (λ flash. Between verifier (slot_in flash row) done 0)
-    → ((limit : ℕ) (bytes : List ℕ) → HasRead verifier limit bytes → (IsOk result ↔ Whole bytes limit))
-    → IfOk result (λ info. (limit : ℕ) (bytes : List ℕ) → HasRead verifier limit bytes → IsInfo bytes info)
-    → IfErr result (λ why. (limit : ℕ) (bytes : List ℕ) → HasRead verifier limit bytes → bad limit bytes ≡ Some why)
+    → ((limit : ℕ) (bytes : List ℕ) → HasRead verifier limit bytes
+    → (IsOk result ↔ Whole bytes limit))
+    → IfOk result (λ info. (limit : ℕ) (bytes : List ℕ) → HasRead verifier limit bytes
+    → IsInfo bytes info)
+    → IfErr result (λ why. (limit : ℕ) (bytes : List ℕ) → HasRead verifier limit bytes
+    → bad limit bytes ≡ Some why)
     → IfSome told (λ flash. IsVerified (slot_in flash row) found)
 told_last None verifier row done result found is between whole ok err = tt
 told_last (Some flash) verifier row done result found is between whole ok err =
@@ -101,6 +114,7 @@ told_last (Some flash) verifier row done result found is between whole ok err =
     (omega (arith, between.wanted)) err))
   where
     by : (r : Result ImageInfo BadImage) → IfOk r (HoldsWith (slot_in flash row))
-        → IfErr r (λ why. held (slot_in flash row) ≡ None) → IsVerified (slot_in flash row) (result_ok r)
+        → IfErr r (λ why. held (slot_in flash row) ≡ None) → IsVerified (slot_in flash row)
+        (result_ok r)
     by (Ok info) told none = told
     by (Err why) told none = none

@@ -42,9 +42,12 @@ module _ {S : Type 0} (may_end : S → ℕ → StepEnd → Type 0)
   -- one rewrite more is made
   pub made_next : (set after : S) (otadata : ℕ) (writes : List Rewrite) (i : ℕ) (d : Rewrite)
       (count mid now : ℕ) (old told new : Option (List ℕ)) → i < length writes → after ≡ set
-      → AreMade may_end may_tear may_refuse must_refuse set (rewrites otadata (take i writes)) count mid old told
-      → AreMade may_end may_tear may_refuse must_refuse after (rewrite otadata (get_or writes i d)) mid now told new
-      → AreMade may_end may_tear may_refuse must_refuse set (rewrites otadata (take (i + 1) writes)) count now old new
+      → AreMade may_end may_tear may_refuse must_refuse set (rewrites otadata (take i writes)) count
+      mid old told
+      → AreMade may_end may_tear may_refuse must_refuse after (rewrite otadata (get_or writes i d))
+      mid now told new
+      → AreMade may_end may_tear may_refuse must_refuse set (rewrites otadata (take (i + 1) writes))
+      count now old new
   made_next set after otadata writes i d count mid now old told new inside same one two =
       let next = subst (λ s. AreMade may_end may_tear may_refuse must_refuse s
       (rewrite otadata (get_or writes i d)) mid now told new) same two in
@@ -55,10 +58,14 @@ module _ {S : Type 0} (may_end : S → ℕ → StepEnd → Type 0)
 
   -- behind those that are made, one was missed
   pub missed_next : (set after : S) (otadata : ℕ) (writes : List Rewrite) (i : ℕ) (d : Rewrite)
-      (count mid now : ℕ) (old told new : Option (List ℕ)) (why : NorFault) → i < length writes → after ≡ set
-      → AreMade may_end may_tear may_refuse must_refuse set (rewrites otadata (take i writes)) count mid old told
-      → AreMissed may_end may_tear may_refuse must_refuse after (rewrite otadata (get_or writes i d)) mid now told new why
-      → AreMissed may_end may_tear may_refuse must_refuse set (rewrites otadata writes) count now old new why
+      (count mid now : ℕ) (old told new : Option (List ℕ)) (why : NorFault) → i < length writes
+      → after ≡ set
+      → AreMade may_end may_tear may_refuse must_refuse set (rewrites otadata (take i writes)) count
+      mid old told
+      → AreMissed may_end may_tear may_refuse must_refuse after
+      (rewrite otadata (get_or writes i d)) mid now told new why
+      → AreMissed may_end may_tear may_refuse must_refuse set (rewrites otadata writes) count now
+      old new why
   missed_next set after otadata writes i d count mid now old told new why inside same one missed =
       let it = rewrite otadata (get_or writes i d) in
       let front = rewrites otadata (take i writes) in
@@ -66,7 +73,11 @@ module _ {S : Type 0} (may_end : S → ℕ → StepEnd → Type 0)
       let all : (front ++ it) ++ back ≡ rewrites otadata writes =
       ap (λ steps. steps ++ back) (rewrites_next otadata writes i d inside)
       ∙ rewrites_split otadata writes (i + 1) in
-      let next = subst (λ s. AreMissed may_end may_tear may_refuse must_refuse s it mid now told new why) same missed in
-      subst (λ steps. AreMissed may_end may_tear may_refuse must_refuse set steps count now old new why) all
-      (missed_front may_end may_tear may_refuse must_refuse set (front ++ it) back count now old new why
-      (missed_back may_end may_tear may_refuse must_refuse set front it count mid now old told new why one next))
+      let next = subst (λ s. AreMissed may_end may_tear may_refuse must_refuse s it mid now told new
+      why) same missed in
+      subst (λ steps. AreMissed may_end may_tear may_refuse must_refuse set steps count now old new
+      why) all
+      (missed_front may_end may_tear may_refuse must_refuse set (front ++ it) back count now old new
+      why
+      (missed_back may_end may_tear may_refuse must_refuse set front it count mid now old told new
+      why one next))

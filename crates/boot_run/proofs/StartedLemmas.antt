@@ -46,22 +46,26 @@ first_is_boot layout images es steps None first = first
 first_is_boot layout images es steps (Some started) first = first
 
 -- each rewrite is two steps
-pub length-rewrites : (otadata : ℕ) (writes : List Rewrite) → length (rewrites otadata writes) ≡ 2 * length writes
+pub length-rewrites : (otadata : ℕ) (writes : List Rewrite) → length (rewrites otadata writes)
+    ≡ 2 * length writes
 length-rewrites otadata [] = refl
 length-rewrites otadata (write ∷ writes) =
     let rest = length-rewrites otadata writes in
     omega (arith, length-append (rewrite otadata write) (rewrites otadata writes))
 
 -- of a device that tells its bytes
-pub told_boot : (layout : Places) (size otadata : ℕ) (es : ℕ → Entry) (made writes : List Rewrite) (steps : ℕ)
+pub told_boot : (layout : Places) (size otadata : ℕ) (es : ℕ → Entry) (made writes : List Rewrite)
+    (steps : ℕ)
     (old mid : Option (List ℕ)) (started : Option (App × ImageInfo)) → IsPlaced layout size
     → made ≡ boot_writes es → writes ≡ boot_writes es → AreShort (boot_writes es)
     → otadata ≡ layout.otadata → IsAfterAll (rewrites otadata made) old mid
     → IfSome mid (λ flash. IsFirst (images_in held layout flash)
     (candidates layout (names layout (written writes es))) started)
     → IfSome old (λ flash. IsBoot layout (images_in held layout flash) es (booted_of steps started))
-told_boot layout size otadata es made writes steps None mid started placed all_made is short place all first = tt
-told_boot layout size otadata es made writes steps (Some flash) mid started placed all_made is short place all first =
+told_boot layout size otadata es made writes steps None mid started placed all_made is short place
+    all first = tt
+told_boot layout size otadata es made writes steps (Some flash) mid started placed all_made is short
+    place all first =
     let all_there = subst (λ o. mid ≡ Some (after_steps flash (rewrites o made))) place all in
     let on = subst (λ (m : Option (List ℕ)). IfSome m (λ f. IsFirst (images_in held layout f)
     (candidates layout (names layout (written writes es))) started)) all_there first in
@@ -69,37 +73,50 @@ told_boot layout size otadata es made writes steps (Some flash) mid started plac
     let images : images_in held layout left ≡ images_in held layout flash =
     left_images held layout size flash left made placed (subst AreShort (sym all_made) short)
     (left_end flash (rewrites layout.otadata made)) in
-    let here = subst (λ h. IsFirst h (candidates layout (names layout (written writes es))) started) images on in
-    let named = subst (λ ws. IsFirst (images_in held layout flash) (candidates layout (names layout (written ws es))) started) is here in
+    let here = subst (λ h. IsFirst h (candidates layout (names layout (written writes es))) started)
+    images on in
+    let named = subst (λ ws. IsFirst (images_in held layout flash)
+    (candidates layout (names layout (written ws es))) started) is here in
     first_is_boot layout (images_in held layout flash) es steps started named
 
 -- ---- by the entries that were read
 
 -- what boots by one pair of entries boots by the same ones
-is_boot_same : (layout : Places) (images : App → Option (List ℕ)) (es gs : ℕ → Entry) (booted : Option Booted)
-    → boots layout images es ≡ boots layout images gs → IsBoot layout images es booted → IsBoot layout images gs booted
+is_boot_same : (layout : Places) (images : App → Option (List ℕ)) (es gs : ℕ → Entry)
+    (booted : Option Booted)
+    → boots layout images es ≡ boots layout images gs → IsBoot layout images es booted
+    → IsBoot layout images gs booted
 is_boot_same layout images es gs None same is = sym same ∙ is
 is_boot_same layout images es gs (Some booted) same is =
     record { image = is.image; is = sym same ∙ is.is; told = is.told }
 
 -- what boots by the entries that were read is what boots of the flash
-pub read_boots : (layout : Places) (e0 e1 : Entry) (old mid : Option (List ℕ)) (r : Result (Option Booted) NorFault)
-    → mid ≡ old → IfSome old (λ flash. e0 ≡ entries_in layout flash 0) → IfSome old (λ flash. e1 ≡ entries_in layout flash 1)
-    → IfOk r (λ booted. IfSome mid (λ flash. IsBoot layout (images_in held layout flash) (sectors e0 e1) booted))
-    → IfOk r (λ booted. IfSome old (λ flash. IsBoot layout (images_in held layout flash) (entries_in layout flash) booted))
+pub read_boots : (layout : Places) (e0 e1 : Entry) (old mid : Option (List ℕ))
+    (r : Result (Option Booted) NorFault)
+    → mid ≡ old → IfSome old (λ flash. e0 ≡ entries_in layout flash 0)
+    → IfSome old (λ flash. e1 ≡ entries_in layout flash 1)
+    → IfOk r (λ booted. IfSome mid
+    (λ flash. IsBoot layout (images_in held layout flash) (sectors e0 e1) booted))
+    → IfOk r (λ booted. IfSome old
+    (λ flash. IsBoot layout (images_in held layout flash) (entries_in layout flash) booted))
 read_boots layout e0 e1 old mid (Err why) same first second boots = boots
 read_boots layout e0 e1 None mid (Ok booted) same first second boots = tt
 read_boots layout e0 e1 (Some flash) mid (Ok booted) same first second boots =
-    is_boot_same layout (images_in held layout flash) (sectors e0 e1) (entries_in layout flash) booted
-    (boots_same layout (images_in held layout flash) (entries_in layout flash) (sectors e0 e1) first second)
-    (subst (λ (m : Option (List ℕ)). IfSome m (λ f. IsBoot layout (images_in held layout f) (sectors e0 e1) booted)) same boots)
+    is_boot_same layout (images_in held layout flash) (sectors e0 e1) (entries_in layout flash)
+    booted
+    (boots_same layout (images_in held layout flash) (entries_in layout flash) (sectors e0 e1) first
+    second)
+    (subst (λ (m : Option (List ℕ)). IfSome m
+    (λ f. IsBoot layout (images_in held layout f) (sectors e0 e1) booted)) same boots)
 
 -- what holds of the rewrites by the entries that were read
 pub read_steps : (layout : Places) (e0 e1 : Entry) (told : Option (List ℕ)) (Q : List Step → Type 0)
-    → IfSome told (λ flash. e0 ≡ entries_in layout flash 0) → IfSome told (λ flash. e1 ≡ entries_in layout flash 1)
+    → IfSome told (λ flash. e0 ≡ entries_in layout flash 0)
+    → IfSome told (λ flash. e1 ≡ entries_in layout flash 1)
     → Q (rewrites layout.otadata (boot_writes (sectors e0 e1)))
     → OfEntries layout told (λ es. Q (rewrites layout.otadata (boot_writes es)))
-read_steps layout e0 e1 None Q first second holds = record { entries = sectors e0 e1; read = tt; holds = holds }
+read_steps layout e0 e1 None Q first second holds = record
+    { entries = sectors e0 e1; read = tt; holds = holds }
 read_steps layout e0 e1 (Some flash) Q first second holds = record {
   entries = entries_in layout flash;
   read = refl;
@@ -108,19 +125,27 @@ read_steps layout e0 e1 (Some flash) Q first second holds = record {
 }
 
 -- what holds of any entries
-pub any_entries : (layout : Places) (told : Option (List ℕ)) (P : (ℕ → Entry) → Type 0) → ((es : ℕ → Entry) → P es)
+pub any_entries : (layout : Places) (told : Option (List ℕ)) (P : (ℕ → Entry) → Type 0)
+    → ((es : ℕ → Entry) → P es)
     → OfEntries layout told P
 any_entries layout None P holds =
     let blank : Entry = record { seq = 0; label = []; state = 0; crc = 0 } in
     record { entries = λ y. blank; read = tt; holds = holds (λ y. blank) }
 any_entries layout (Some flash) P holds =
-    record { entries = entries_in layout flash; read = refl; holds = holds (entries_in layout flash) }
+    record {
+      entries = entries_in layout flash;
+      read = refl;
+      holds = holds (entries_in layout flash);
+    }
 
 -- what holds of the two entries that were read
-pub read_pair : (layout : Places) (e0 e1 : Entry) (told : Option (List ℕ)) (R : Entry → Entry → Type 0)
-    → IfSome told (λ flash. e0 ≡ entries_in layout flash 0) → IfSome told (λ flash. e1 ≡ entries_in layout flash 1)
+pub read_pair : (layout : Places) (e0 e1 : Entry) (told : Option (List ℕ))
+    (R : Entry → Entry → Type 0)
+    → IfSome told (λ flash. e0 ≡ entries_in layout flash 0)
+    → IfSome told (λ flash. e1 ≡ entries_in layout flash 1)
     → R e0 e1 → OfEntries layout told (λ es. R (es 0) (es 1))
-read_pair layout e0 e1 None R first second holds = record { entries = sectors e0 e1; read = tt; holds = holds }
+read_pair layout e0 e1 None R first second holds = record
+    { entries = sectors e0 e1; read = tt; holds = holds }
 read_pair layout e0 e1 (Some flash) R first second holds = record {
   entries = entries_in layout flash;
   read = refl;
@@ -152,8 +177,10 @@ left_crash layout size writes made (Some flash) new placed are same left = (
 )
 
 -- and of rewrites that did not begin
-pub unread_crash : (layout : Places) (size : ℕ) (writes : List ℕ → List Rewrite) (old new : Option (List ℕ))
-    → IsPlaced layout size → ((flash : List ℕ) → AreRewrites (entries_in layout flash) (writes flash))
+pub unread_crash : (layout : Places) (size : ℕ) (writes : List ℕ → List Rewrite)
+    (old new : Option (List ℕ))
+    → IsPlaced layout size → ((flash : List ℕ) → AreRewrites (entries_in layout flash)
+    (writes flash))
     → new ≡ old → IsLeftByVerdicts layout writes old new
 unread_crash layout size writes None new placed are same = tt
 unread_crash layout size writes (Some flash) new placed are same = (
@@ -167,11 +194,13 @@ unread_crash layout size writes (Some flash) new placed are same = (
 -- of the rewrites by the entries that were read
 pub read_crash : (layout : Places) (size : ℕ) (writes : (ℕ → Entry) → List Rewrite) (e0 e1 : Entry)
     (old new : Option (List ℕ)) → IsPlaced layout size → AreBy writes
-    → IfSome old (λ flash. e0 ≡ entries_in layout flash 0) → IfSome old (λ flash. e1 ≡ entries_in layout flash 1)
+    → IfSome old (λ flash. e0 ≡ entries_in layout flash 0)
+    → IfSome old (λ flash. e1 ≡ entries_in layout flash 1)
     → IsLeftOf (rewrites layout.otadata (writes (sectors e0 e1))) old new
     → IsLeftByVerdicts layout (λ flash. writes (entries_in layout flash)) old new
 read_crash layout size writes e0 e1 old new placed by first second left =
-    left_crash layout size (λ flash. writes (entries_in layout flash)) (writes (sectors e0 e1)) old new placed
+    left_crash layout size (λ flash. writes (entries_in layout flash)) (writes (sectors e0 e1)) old
+    new placed
     (λ flash. by.are (entries_in layout flash)) (same old first second) left
   where
     same : (told : Option (List ℕ)) → IfSome told (λ flash. e0 ≡ entries_in layout flash 0)
@@ -181,7 +210,8 @@ read_crash layout size writes e0 e1 old new placed by first second left =
     same (Some flash) first second = by.same (sectors e0 e1) (entries_in layout flash) first second
 
 -- rewrites of entries that were read are short
-pub by_short : (writes : (ℕ → Entry) → List Rewrite) (e0 e1 : Entry) → AreBy writes → IsStored e0 → IsStored e1
+pub by_short : (writes : (ℕ → Entry) → List Rewrite) (e0 e1 : Entry) → AreBy writes → IsStored e0
+    → IsStored e1
     → AreShort (writes (sectors e0 e1))
 by_short writes e0 e1 by first second =
     boot_short (sectors e0 e1) (λ y two. at y) (writes (sectors e0 e1)) (by.are (sectors e0 e1))
@@ -196,14 +226,18 @@ on_err_any (Ok x) holds = tt
 on_err_any (Err why) holds = holds
 
 -- what is started of a flash is what boots of it
-pub seen_boot : (layout : Places) (flash : List ℕ) (e0 e1 first second : Entry) (writes : List Rewrite)
+pub seen_boot : (layout : Places) (flash : List ℕ) (e0 e1 first second : Entry)
+    (writes : List Rewrite)
     (apps : List App) (steps : ℕ) (started : Option (App × ImageInfo))
-    → e0 ≡ entries_in layout flash 0 → e1 ≡ entries_in layout flash 1 → writes ≡ boot_writes (sectors e0 e1)
+    → e0 ≡ entries_in layout flash 0 → e1 ≡ entries_in layout flash 1 → writes
+    ≡ boot_writes (sectors e0 e1)
     → first ≡ written writes (sectors e0 e1) 0 → second ≡ written writes (sectors e0 e1) 1
     → apps ≡ candidates layout (named_of layout first second)
     → IsFirst (images_in held layout flash) apps started
-    → IsBoot layout (images_in held layout flash) (entries_in layout flash) (booted_of steps started)
-seen_boot layout flash e0 e1 first second writes apps steps started zeroth other is one two all found =
+    → IsBoot layout (images_in held layout flash) (entries_in layout flash)
+    (booted_of steps started)
+seen_boot layout flash e0 e1 first second writes apps steps started zeroth other is one two all
+    found =
     let images = images_in held layout flash in
     let es = sectors e0 e1 in
     let named : named_of layout first second ≡ names layout (written (boot_writes es) es) =
@@ -215,8 +249,10 @@ seen_boot layout flash e0 e1 first second writes apps steps started zeroth other
 
 -- how many steps the rewrites of a flash are
 pub seen_steps : (layout : Places) (flash : List ℕ) (e0 e1 : Entry) (writes : List Rewrite) (n : ℕ)
-    → e0 ≡ entries_in layout flash 0 → e1 ≡ entries_in layout flash 1 → writes ≡ boot_writes (sectors e0 e1)
-    → n ≡ length writes → 2 * n ≡ length (rewrites layout.otadata (boot_writes (entries_in layout flash)))
+    → e0 ≡ entries_in layout flash 0 → e1 ≡ entries_in layout flash 1 → writes
+    ≡ boot_writes (sectors e0 e1)
+    → n ≡ length writes → 2 * n
+    ≡ length (rewrites layout.otadata (boot_writes (entries_in layout flash)))
 seen_steps layout flash e0 e1 writes n zeroth other is long =
     let same = is ∙ writes_same (entries_in layout flash) (sectors e0 e1) zeroth other in
     omega (

@@ -43,7 +43,8 @@ byte_small (suc i) x = omega arith
 low_small : (i n x : ℕ) → All (λ b. b < 256) (bytes_low_first i n x)
 low_small i zero x = All-nil (λ (b : ℕ). b < 256)
 low_small i (suc n) x =
-    All-cons (λ (b : ℕ). b < 256) (byte_at i x) (bytes_low_first (suc i) n x) (byte_small i x) (low_small (suc i) n x)
+    All-cons (λ (b : ℕ). b < 256) (byte_at i x) (bytes_low_first (suc i) n x) (byte_small i x)
+    (low_small (suc i) n x)
 
 -- the bytes of an entry are bytes
 entry_small : (e : Entry) → All (λ b. b < 256) e.label → All (λ b. b < 256) (entry_bytes e)
@@ -55,7 +56,8 @@ entry_small e small =
     let crc = bytes_low_first 0 4 e.crc in
     All-append P (seq ++ e.label ++ state) crc
     (All-append P (seq ++ e.label) state
-    (All-append P seq e.label (low_small 0 4 e.seq) small) (low_small 0 4 e.state)) (low_small 0 4 e.crc)
+    (All-append P seq e.label (low_small 0 4 e.seq) small) (low_small 0 4 e.state))
+    (low_small 0 4 e.crc)
 
 -- a byte ANDed into one that was erased stands there
 and_erased : (byte : ℕ) → byte < 256 → bit_and 255 byte ≡ byte
@@ -67,7 +69,8 @@ and_erased byte small = and_comm 255 byte ∙ and_mask byte 8 ∙ low
 -- the 32 bytes that a rewrite leaves are the entry's
 rewritten_bytes : (otadata : ℕ) (flash : List ℕ) (write : Rewrite) → otadata % 4096 ≡ 0
     → otadata + 4096 * write.sector + 4096 ≤ length flash → IsStored write.entry
-    → part_of (after_steps flash (rewrite otadata write)) (otadata + 4096 * write.sector) 32 ≡ entry_bytes write.entry
+    → part_of (after_steps flash (rewrite otadata write)) (otadata + 4096 * write.sector) 32
+    ≡ entry_bytes write.entry
 rewritten_bytes otadata flash write aligned inside stored =
     ext_get_or 0 (part_of left at 32) page (omega (
       arith,
@@ -85,7 +88,8 @@ rewritten_bytes otadata flash write aligned inside stored =
     ∙ byte_after_inside erase (at + i) (slice_index flash (at + i)) (omega arith) (omega arith))
     ∙ byte_after_inside program (at + i) 255 (omega arith) (omega (arith, long))
     ∙ ap (λ n. bit_and 255 (slice_index page n)) (same i)
-    ∙ and_erased (slice_index page i) (All-get_or (λ (b : ℕ). b < 256) page i 0 (omega (arith, long))
+    ∙ and_erased (slice_index page i)
+    (All-get_or (λ (b : ℕ). b < 256) page i 0 (omega (arith, long))
     (entry_small write.entry stored.label)))
   where
     at : ℕ
@@ -116,15 +120,18 @@ rewritten_bytes otadata flash write aligned inside stored =
     same i = omega arith
 
 -- the entry that was written is read back
-pub rewritten_entry : (layout : Places) (flash : List ℕ) (write : Rewrite) → layout.otadata % 4096 ≡ 0
+pub rewritten_entry : (layout : Places) (flash : List ℕ) (write : Rewrite) → layout.otadata % 4096
+    ≡ 0
     → layout.otadata + 4096 * write.sector + 4096 ≤ length flash → IsStored write.entry
-    → entries_in layout (after_steps flash (rewrite layout.otadata write)) write.sector ≡ write.entry
+    → entries_in layout (after_steps flash (rewrite layout.otadata write)) write.sector
+    ≡ write.entry
 rewritten_entry layout flash write aligned inside stored =
     ap entry_of (rewritten_bytes layout.otadata flash write aligned inside stored)
     ∙ entry_of-all write.entry stored.sized
 
 -- so the entries after a rewrite are the changed ones
-pub entries_changed : (layout : Places) (flash : List ℕ) (write : Rewrite) → IsPlaced layout (length flash)
+pub entries_changed : (layout : Places) (flash : List ℕ) (write : Rewrite)
+    → IsPlaced layout (length flash)
     → write.sector < 2 → IsStored write.entry → (y : ℕ) → y < 2
     → entries_in layout (after_steps flash (rewrite layout.otadata write)) y
     ≡ changed write (entries_in layout flash) y
@@ -137,12 +144,15 @@ entries_changed layout flash write placed two stored y below = at (cases_Bool (y
         → entries_in layout left y ≡ changed write (entries_in layout flash) y
     at (inl p) =
         let same : y ≡ write.sector = grind (arith, nat_tests) in
-        let inside : layout.otadata + 4096 * write.sector + 4096 ≤ length flash = omega (arith, placed.inside, two) in
-        rw p (ap (entries_in layout left) same ∙ rewritten_entry layout flash write placed.aligned inside stored)
+        let inside : layout.otadata + 4096 * write.sector + 4096 ≤ length flash = omega
+        (arith, placed.inside, two) in
+        rw p (ap (entries_in layout left) same ∙ rewritten_entry layout flash write placed.aligned
+        inside stored)
     at (inr p) =
         let other : y ≡ other_of write.sector =
         (let apart : y ≢ write.sector = grind (arith, nat_tests) in omega arith) in
-        let kept = left_other layout flash left write placed.aligned two (omega (arith, stored.sized.label))
+        let kept = left_other layout flash left write placed.aligned two
+        (omega (arith, stored.sized.label))
         (left_end flash (rewrite layout.otadata write)) in
         rw p (ap (entries_in layout left) other ∙ kept ∙ ap (entries_in layout flash) (sym other))
 
@@ -152,7 +162,8 @@ AreStored [] = Unit {0}
 AreStored (write ∷ writes) = ((write.sector < 2) × IsStored write.entry) × AreStored writes
 
 -- and those after rewrites, one after the other
-pub entries_written : (layout : Places) (flash : List ℕ) (writes : List Rewrite) → IsPlaced layout (length flash)
+pub entries_written : (layout : Places) (flash : List ℕ) (writes : List Rewrite)
+    → IsPlaced layout (length flash)
     → AreStored writes → (y : ℕ) → y < 2
     → entries_in layout (after_steps flash (rewrites layout.otadata writes)) y
     ≡ written writes (entries_in layout flash) y
@@ -161,18 +172,25 @@ entries_written layout flash (write ∷ writes) placed stored y below =
     let steps = rewrite layout.otadata write in
     let mid = after_steps flash steps in
     let long : length mid ≡ length flash = length-after_steps flash steps in
-    ap (λ f. entries_in layout f y) (after_steps_append flash steps (rewrites layout.otadata writes))
+    ap (λ f. entries_in layout f y)
+    (after_steps_append flash steps (rewrites layout.otadata writes))
     ∙ entries_written layout mid writes (subst (IsPlaced layout) (sym long) placed) stored.1 y below
     ∙ written_same writes (changed write (entries_in layout flash)) (entries_in layout mid) y
     (entries_changed layout flash write placed stored.0.0 stored.0.1 y below)
 
 -- a rewrite of a stored entry is stored
-restated_stored : (es : ℕ → Entry) → ((y : ℕ) → y < 2 → IsStored (es y)) → (write : Rewrite) → IsRestated es write
+restated_stored : (es : ℕ → Entry) → ((y : ℕ) → y < 2 → IsStored (es y)) → (write : Rewrite)
+    → IsRestated es write
     → IsStored write.entry
 restated_stored es stored write is =
     let e = stored write.sector is.two in
     subst (λ (w : Rewrite). IsStored w.entry) (sym is.is) (record {
-      sized = record { seq = e.sized.seq; label = e.sized.label; state = is.fits; crc = e.sized.crc };
+      sized = record {
+        seq = e.sized.seq;
+        label = e.sized.label;
+        state = is.fits;
+        crc = e.sized.crc;
+      };
       label = e.label;
     })
 
@@ -180,15 +198,19 @@ pub boot_stored : (es : ℕ → Entry) → ((y : ℕ) → y < 2 → IsStored (es
     → AreRewrites es writes → AreStored writes
 boot_stored es stored [] are = tt
 boot_stored es stored (w ∷ []) are = ((are.two, restated_stored es stored w are), tt)
-boot_stored es stored (w ∷ v ∷ []) are =
-    ((are.0.two, restated_stored es stored w are.0), ((are.1.two, restated_stored es stored v are.1), tt))
+boot_stored es stored (w ∷ v ∷ []) are = (
+  (are.0.two, restated_stored es stored w are.0),
+  ((are.1.two, restated_stored es stored v are.1), tt),
+)
 boot_stored es stored (w ∷ v ∷ u ∷ ws) are = absurd are
 
 -- what boots is the first candidate of the flash that the rewrites of a boot leave whose partition
 -- holds an image
-pub boots_after : (layout : Places) (flash : List ℕ) → IsPlaced layout (length flash) → All (λ b. b < 256) flash
+pub boots_after : (layout : Places) (flash : List ℕ) → IsPlaced layout (length flash)
+    → All (λ b. b < 256) flash
     → boots_in held layout flash
-    ≡ first_held (images_in held layout (after_steps flash (rewrites layout.otadata (boot_writes (entries_in layout flash)))))
+    ≡ first_held (images_in held layout
+    (after_steps flash (rewrites layout.otadata (boot_writes (entries_in layout flash)))))
     (candidates layout (names layout (entries_in layout
     (after_steps flash (rewrites layout.otadata (boot_writes (entries_in layout flash)))))))
 unfolding boots
@@ -205,4 +227,5 @@ boots_after layout flash placed small =
     let zeroth = entries_written layout flash writes placed stored 0 (omega arith) in
     let other = entries_written layout flash writes placed stored 1 (omega arith) in
     sym (ap (λ h. first_held h (candidates layout (names layout (entries_in layout left)))) images
-    ∙ (λ i. first_held (images_in held layout flash) (candidates layout (named_of layout (zeroth i) (other i)))))
+    ∙ (λ i. first_held (images_in held layout flash)
+    (candidates layout (named_of layout (zeroth i) (other i)))))

@@ -29,7 +29,8 @@ pub active_named : (layout : Places) (e0 e1 : Entry) → IsSome (active_of e0 e1
 unfolding named_of
 active_named layout e0 e1 some = at (active_of e0 e1) some
   where
-    at : (active : Option ℕ) → IsSome active → (slot : ℕ) × (named_by layout e0 e1 active ≡ Ota slot)
+    at : (active : Option ℕ) → IsSome active → (slot : ℕ)
+        × (named_by layout e0 e1 active ≡ Ota slot)
     at None some = absurd (let no : false ≡ true = some in cc)
     at (Some zero) some = (_, refl)
     at (Some (suc n)) some = (_, refl)
@@ -50,9 +51,15 @@ unfolding confirm_of
 confirm_are es = at (active_of (es 0) (es 1)) (active-lt (es 0) (es 1))
   where
     one : (y : ℕ) (e : Entry) → y < 2 → e ≡ es y → (done : Bool)
-        → AreRewrites es (writes_of (one_of {E = NoOtaApp} (Ok (if done then None else Some (restated 2 y e)))))
+        → AreRewrites es (writes_of
+        (one_of {E = NoOtaApp} (Ok (if done then None else Some (restated 2 y e)))))
     one y e two is true = tt
-    one y e two is false = record { two = two; state = 2; fits = lit< tt; is = ap (restated 2 y) is }
+    one y e two is false = record {
+      two = two;
+      state = 2;
+      fits = lit< tt;
+      is = ap (restated 2 y) is;
+    }
 
     at : (active : Option ℕ) → IfSome active (λ number. number < 2)
         → AreRewrites es (writes_of (one_of (confirm_by (sectors (es 0) (es 1)) active)))
@@ -69,11 +76,13 @@ confirmation_by = record {
 }
 
 -- so its rewrite is of one of the two sectors
-pub confirm_two : (e0 e1 : Entry) (write : Rewrite) → confirm_of e0 e1 ≡ Ok (Some write) → write.sector < 2
+pub confirm_two : (e0 e1 : Entry) (write : Rewrite) → confirm_of e0 e1 ≡ Ok (Some write)
+    → write.sector < 2
 confirm_two e0 e1 write is =
     let are = confirm_are (sectors e0 e1) in
     let one : IsRestated (sectors e0 e1) write =
-    subst (λ (r : Result (Option Rewrite) NoOtaApp). AreRewrites (sectors e0 e1) (writes_of (one_of r))) is are in
+    subst (λ (r : Result (Option Rewrite) NoOtaApp). AreRewrites (sectors e0 e1)
+    (writes_of (one_of r))) is are in
     one.two
 
 -- ---- a rejection
@@ -84,7 +93,8 @@ pub reject_active : (layout : Places) (whole : App → Bool) (e0 e1 : Entry) (wr
 unfolding reject_of
 reject_active layout whole e0 e1 write is = at (active_of e0 e1) is
   where
-    at : (active : Option ℕ) → reject_by layout whole (sectors e0 e1) active ≡ Ok write → IsSome active
+    at : (active : Option ℕ) → reject_by layout whole (sectors e0 e1) active ≡ Ok write
+        → IsSome active
     at None is = absurd cc
     at (Some y) is = refl
 
@@ -95,25 +105,33 @@ unfolding reject_of
 reject_are layout whole es = at (active_of (es 0) (es 1)) (active-lt (es 0) (es 1))
   where
     one : (y : ℕ) (e : Entry) (app : App) (started : Option App) → y < 2 → e ≡ es y → (other : Bool)
-        → AreRewrites es (writes_of (just_one {E = RejectNo} (if other then Ok (restated 3 y e) else Err no.NothingElse)))
+        → AreRewrites es (writes_of
+        (just_one {E = RejectNo} (if other then Ok (restated 3 y e) else Err no.NothingElse)))
     one y e app started two is false = tt
-    one y e app started two is true = record { two = two; state = 3; fits = lit< tt; is = ap (restated 3 y) is }
+    one y e app started two is true = record
+        { two = two; state = 3; fits = lit< tt; is = ap (restated 3 y) is }
 
     at : (active : Option ℕ) → IfSome active (λ number. number < 2)
-        → AreRewrites es (writes_of (just_one (reject_by layout whole (sectors (es 0) (es 1)) active)))
+        → AreRewrites es (writes_of
+        (just_one (reject_by layout whole (sectors (es 0) (es 1)) active)))
     at None two = tt
     at (Some zero) two =
         let write = restated 3 0 (es 0) in
-        one 0 (es 0) (slot_app layout (es 0)) (started_after layout whole (sectors (es 0) (es 1)) write) two refl
-        (is_other (slot_app layout (es 0)) (started_after layout whole (sectors (es 0) (es 1)) write))
+        one 0 (es 0) (slot_app layout (es 0))
+        (started_after layout whole (sectors (es 0) (es 1)) write) two refl
+        (is_other (slot_app layout (es 0))
+        (started_after layout whole (sectors (es 0) (es 1)) write))
     at (Some (suc n)) two =
         let same : suc n ≡ 1 = omega arith in
         let write = restated 3 (suc n) (es 1) in
-        one (suc n) (es 1) (slot_app layout (es 1)) (started_after layout whole (sectors (es 0) (es 1)) write) two
+        one (suc n) (es 1) (slot_app layout (es 1))
+        (started_after layout whole (sectors (es 0) (es 1)) write) two
         (ap es (sym same))
-        (is_other (slot_app layout (es 1)) (started_after layout whole (sectors (es 0) (es 1)) write))
+        (is_other (slot_app layout (es 1))
+        (started_after layout whole (sectors (es 0) (es 1)) write))
 
-pub rejection_by : (layout : Places) (whole : App → Bool) → AreBy (λ es. writes_of (rejection layout whole es))
+pub rejection_by : (layout : Places) (whole : App → Bool)
+    → AreBy (λ es. writes_of (rejection layout whole es))
 rejection_by layout whole = record {
   are = reject_are layout whole;
   same = λ es gs first second i. writes_of (just_one (reject_of layout whole (first i) (second i)));
@@ -133,7 +151,8 @@ reject_two layout whole e0 e1 write is =
 -- what holds of the entries and the truth values that were read
 pub read_whole : (layout : Places) (e0 e1 : Entry) (whole : App → Bool) (told : Option (List ℕ))
     (R : Entry → Entry → (App → Bool) → Type 0)
-    → IfSome told (λ flash. e0 ≡ entries_in layout flash 0) → IfSome told (λ flash. e1 ≡ entries_in layout flash 1)
+    → IfSome told (λ flash. e0 ≡ entries_in layout flash 0)
+    → IfSome told (λ flash. e1 ≡ entries_in layout flash 1)
     → IfSome told (λ flash. AreTold layout whole (images_in held layout flash))
     → R e0 e1 whole → OfWhole layout told (λ es w. R (es 0) (es 1) w)
 read_whole layout e0 e1 whole None R first second tells holds =
@@ -143,7 +162,8 @@ read_whole layout e0 e1 whole (Some flash) R first second tells holds = record {
   whole = whole;
   read = refl;
   tells = tells;
-  holds = subst (λ e. R e (entries_in layout flash 1) whole) first (subst (λ e. R e0 e whole) second holds);
+  holds = subst (λ e. R e (entries_in layout flash 1) whole) first
+      (subst (λ e. R e0 e whole) second holds);
 }
 
 -- what holds of any
@@ -168,11 +188,13 @@ any_whole layout (Some flash) P holds = record {
 -- the rewrites by what was read are those of the flash
 pub rejection_same : (layout : Places) (e0 e1 : Entry) (whole : App → Bool) (told : Option (List ℕ))
     → 0 < length layout.slots
-    → IfSome told (λ flash. e0 ≡ entries_in layout flash 0) → IfSome told (λ flash. e1 ≡ entries_in layout flash 1)
+    → IfSome told (λ flash. e0 ≡ entries_in layout flash 0)
+    → IfSome told (λ flash. e1 ≡ entries_in layout flash 1)
     → IfSome told (λ flash. AreTold layout whole (images_in held layout flash))
     → IfSome told (λ flash. writes_of (rejection layout whole (sectors e0 e1))
     ≡ writes_of (rejection layout (whole_in layout flash) (entries_in layout flash)))
 rejection_same layout e0 e1 whole None some first second tells = tt
 rejection_same layout e0 e1 whole (Some flash) some first second tells =
-    ap (λ r. writes_of (just_one r)) (reject-told layout whole (images_in held layout flash) e0 e1 tells some)
+    ap (λ r. writes_of (just_one r)) (reject-told layout whole (images_in held layout flash) e0 e1
+    tells some)
     ∙ (λ i. writes_of (just_one (reject_of layout (whole_in layout flash) (first i) (second i))))

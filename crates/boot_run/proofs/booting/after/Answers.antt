@@ -15,9 +15,11 @@ loop-write-preserved c =
 pub returns-clause-first : goal.returns-clause-first
 returns-clause-first c =
     sym (written_all c.args.writes.now c.loop-write.write-index
-    (sectors c.loop-write.first c.loop-write.second) 0 c.loop-write-test.false) ∙ c.loop-write.invariant.first
+    (sectors c.loop-write.first c.loop-write.second) 0 c.loop-write-test.false)
+    ∙ c.loop-write.invariant.first
 
 pub returns-clause-second : goal.returns-clause-second
 returns-clause-second c =
     sym (written_all c.args.writes.now c.loop-write.write-index
-    (sectors c.loop-write.first c.loop-write.second) 1 c.loop-write-test.false) ∙ c.loop-write.invariant.second
+    (sectors c.loop-write.first c.loop-write.second) 1 c.loop-write-test.false)
+    ∙ c.loop-write.invariant.second

@@ -28,8 +28,10 @@ pub returns-in_err-first-clause-crash : goal.returns-in_err-first-clause-crash
 returns-in_err-first-clause-crash g c =
     let n = g.D.Nor in
     let p = err_from_is_err_and c.from_residual.result c.from_residual.ensures.1 in
-    rw p.1 (unread_crash c.args.layout.now _ (λ flash. boot_writes (entries_in c.args.layout.now flash))
-    (n.bytes c.args.device.now) _ c.requires.placed (λ flash. boot_are (entries_in c.args.layout.now flash))
+    rw p.1 (unread_crash c.args.layout.now _
+    (λ flash. boot_writes (entries_in c.args.layout.now flash))
+    (n.bytes c.args.device.now) _ c.requires.placed
+    (λ flash. boot_are (entries_in c.args.layout.now flash))
     c.read_entries.ensures.same.bytes_same)
 
 -- the rewrites by the entries that were read
@@ -41,7 +43,8 @@ returns-clause-steps g c =
     let e0 = c.in_ok-first.first in
     let e1 = c.in_ok-first.second in
     read_steps c.args.layout.now e0 e1 (n.bytes c.args.device.now)
-    (λ steps. AreMadeBy n.may_end n.may_tear n.may_refuse n.must_refuse (n.setting c.args.device.now) steps
+    (λ steps. AreMadeBy n.may_end n.may_tear n.may_refuse n.must_refuse
+    (n.setting c.args.device.now) steps
     (n.steps c.args.device.now) (n.steps c.boot_by.new.device) (n.bytes c.args.device.now)
     (n.bytes c.boot_by.new.device) c.boot_by.result × CountsSteps steps c.boot_by.result)
     c.in_ok-first.ensures.first c.in_ok-first.ensures.second (
@@ -53,7 +56,8 @@ returns-clause-steps g c =
 pub returns-clause-boots : goal.returns-clause-boots
 returns-clause-boots g c =
     let n = g.D.Nor in
-    read_boots c.args.layout.now c.in_ok-first.first c.in_ok-first.second (n.bytes c.args.device.now)
+    read_boots c.args.layout.now c.in_ok-first.first c.in_ok-first.second
+    (n.bytes c.args.device.now)
     (n.bytes c.read_entries.new.device) c.boot_by.result c.read_entries.ensures.same.bytes_same
     c.in_ok-first.ensures.first c.in_ok-first.ensures.second c.boot_by.ensures.boots
 
@@ -63,12 +67,17 @@ returns-clause-crash g c =
     let n = g.D.Nor in
     let read = c.read_entries.ensures in
     let it = c.boot_by.ensures in
-    let made = made_by n.may_end n.may_tear n.may_refuse n.must_refuse (n.setting c.args.device.now) _ _ _ _ _ _ _ _
-    c.boot_by.result read.setting.setting_same read.setting.steps_same read.same.bytes_same it.made it.missed in
-    on_err_any c.boot_by.result (read_crash c.args.layout.now _ boot_writes c.in_ok-first.first c.in_ok-first.second
-    (n.bytes c.args.device.now) (n.bytes c.boot_by.new.device) c.requires.placed boot_by c.in_ok-first.ensures.first
+    let made = made_by n.may_end n.may_tear n.may_refuse n.must_refuse (n.setting c.args.device.now)
+    _ _ _ _ _ _ _ _
+    c.boot_by.result read.setting.setting_same read.setting.steps_same read.same.bytes_same it.made
+    it.missed in
+    on_err_any c.boot_by.result (read_crash c.args.layout.now _ boot_writes c.in_ok-first.first
+    c.in_ok-first.second
+    (n.bytes c.args.device.now) (n.bytes c.boot_by.new.device) c.requires.placed boot_by
+    c.in_ok-first.ensures.first
     c.in_ok-first.ensures.second
-    (made_by_left n.may_end n.may_tear n.may_refuse n.must_refuse _ _ _ _ _ _ c.boot_by.result made))
+    (made_by_left n.may_end n.may_tear n.may_refuse n.must_refuse _ _ _ _ _ _ c.boot_by.result
+    made))
 
 pub returns-clause-still : goal.returns-clause-still
 returns-clause-still g c =
@@ -77,9 +86,12 @@ returns-clause-still g c =
     let it = c.boot_by.ensures in
     let e0 = c.in_ok-first.first in
     let e1 = c.in_ok-first.second in
-    let made = made_by n.may_end n.may_tear n.may_refuse n.must_refuse (n.setting c.args.device.now) _ _ _ _ _ _ _ _
-    c.boot_by.result read.setting.setting_same read.setting.steps_same read.same.bytes_same it.made it.missed in
+    let made = made_by n.may_end n.may_tear n.may_refuse n.must_refuse (n.setting c.args.device.now)
+    _ _ _ _ _ _ _ _
+    c.boot_by.result read.setting.setting_same read.setting.steps_same read.same.bytes_same it.made
+    it.missed in
     told_boots c.args.layout.now _ (boot_writes (sectors e0 e1)) (n.bytes c.args.device.now)
     (n.bytes c.boot_by.new.device) c.requires.placed
-    (by_short boot_writes e0 e1 boot_by c.in_ok-first.ensures.stored.0 c.in_ok-first.ensures.stored.1)
+    (by_short boot_writes e0 e1 boot_by c.in_ok-first.ensures.stored.0
+    c.in_ok-first.ensures.stored.1)
     (made_by_left n.may_end n.may_tear n.may_refuse n.must_refuse _ _ _ _ _ _ c.boot_by.result made)

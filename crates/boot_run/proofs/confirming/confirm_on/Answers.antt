@@ -21,7 +21,8 @@ returns-in_err-first-clause-steps g c =
     let p = err_from_is_err_and c.from_residual.result c.from_residual.ensures.1 in
     rw (p.1, p.2) (any_entries c.args.layout.now (n.bytes c.args.device.now) _ (λ es. (
       missed_none n.may_end n.may_tear n.may_refuse n.must_refuse (n.setting c.args.device.now)
-          (rewrites c.args.layout.now.otadata (writes_of (confirmation es))) (n.steps c.args.device.now) _
+          (rewrites c.args.layout.now.otadata (writes_of (confirmation es)))
+          (n.steps c.args.device.now) _
           (n.bytes c.args.device.now) _ _ c.read_entries.ensures.setting.steps_same
           c.read_entries.ensures.same.bytes_same c.in_err-first.ensures.allowed,
       tt,
@@ -31,8 +32,11 @@ pub returns-in_err-first-clause-crash : goal.returns-in_err-first-clause-crash
 returns-in_err-first-clause-crash g c =
     let n = g.D.Nor in
     let p = err_from_is_err_and c.from_residual.result c.from_residual.ensures.1 in
-    rw p.1 (unread_crash c.args.layout.now _ (λ flash. writes_of (confirmation (entries_in c.args.layout.now flash)))
-    (n.bytes c.args.device.now) _ c.requires.placed (λ flash. confirmation_by.are (entries_in c.args.layout.now flash)) c.read_entries.ensures.same.bytes_same)
+    rw p.1 (unread_crash c.args.layout.now _
+    (λ flash. writes_of (confirmation (entries_in c.args.layout.now flash)))
+    (n.bytes c.args.device.now) _ c.requires.placed
+    (λ flash. confirmation_by.are (entries_in c.args.layout.now flash))
+    c.read_entries.ensures.same.bytes_same)
 
 -- the rewrite by the entries that were read
 pub returns-clause-steps : goal.returns-clause-steps
@@ -42,11 +46,13 @@ returns-clause-steps g c =
     let it = c.confirm_by.ensures in
     let at = c.args.layout.now.otadata in
     read_pair c.args.layout.now c.in_ok-first.first c.in_ok-first.second (n.bytes c.args.device.now)
-    (λ e0 e1. AreMadeBy n.may_end n.may_tear n.may_refuse n.must_refuse (n.setting c.args.device.now)
+    (λ e0 e1. AreMadeBy n.may_end n.may_tear n.may_refuse n.must_refuse
+    (n.setting c.args.device.now)
     (rewrites at (writes_of (one_of (confirm_of e0 e1))))
     (n.steps c.args.device.now) (n.steps c.confirm_by.new.device) (n.bytes c.args.device.now)
     (n.bytes c.confirm_by.new.device) c.confirm_by.result
-    × IfOk c.confirm_by.result (Answers at (named_of c.args.layout.now e0 e1) (one_of (confirm_of e0 e1))))
+    × IfOk c.confirm_by.result
+    (Answers at (named_of c.args.layout.now e0 e1) (one_of (confirm_of e0 e1))))
     c.in_ok-first.ensures.first c.in_ok-first.ensures.second (
       made_by n.may_end n.may_tear n.may_refuse n.must_refuse _ _ _ _ _ _ _ _ _ c.confirm_by.result
           read.setting.setting_same read.setting.steps_same read.same.bytes_same it.made it.missed,
@@ -59,13 +65,17 @@ returns-clause-crash g c =
     let n = g.D.Nor in
     let read = c.read_entries.ensures in
     let it = c.confirm_by.ensures in
-    let made = made_by n.may_end n.may_tear n.may_refuse n.must_refuse (n.setting c.args.device.now) _ _ _ _ _ _ _ _
-    c.confirm_by.result read.setting.setting_same read.setting.steps_same read.same.bytes_same it.made it.missed in
-    on_err_any c.confirm_by.result (read_crash c.args.layout.now _ (λ es. writes_of (confirmation es))
+    let made = made_by n.may_end n.may_tear n.may_refuse n.must_refuse (n.setting c.args.device.now)
+    _ _ _ _ _ _ _ _
+    c.confirm_by.result read.setting.setting_same read.setting.steps_same read.same.bytes_same
+    it.made it.missed in
+    on_err_any c.confirm_by.result
+    (read_crash c.args.layout.now _ (λ es. writes_of (confirmation es))
     c.in_ok-first.first c.in_ok-first.second
     (n.bytes c.args.device.now) (n.bytes c.confirm_by.new.device) c.requires.placed confirmation_by
     c.in_ok-first.ensures.first c.in_ok-first.ensures.second
-    (made_by_left n.may_end n.may_tear n.may_refuse n.must_refuse _ _ _ _ _ _ c.confirm_by.result made))
+    (made_by_left n.may_end n.may_tear n.may_refuse n.must_refuse _ _ _ _ _ _ c.confirm_by.result
+    made))
 
 pub returns-clause-still : goal.returns-clause-still
 returns-clause-still g c =
@@ -74,13 +84,18 @@ returns-clause-still g c =
     let it = c.confirm_by.ensures in
     let e0 = c.in_ok-first.first in
     let e1 = c.in_ok-first.second in
-    let made = made_by n.may_end n.may_tear n.may_refuse n.must_refuse (n.setting c.args.device.now) _ _ _ _ _ _ _ _
-    c.confirm_by.result read.setting.setting_same read.setting.steps_same read.same.bytes_same it.made it.missed in
-    told_boots c.args.layout.now _ (writes_of (confirmation (sectors e0 e1))) (n.bytes c.args.device.now)
+    let made = made_by n.may_end n.may_tear n.may_refuse n.must_refuse (n.setting c.args.device.now)
+    _ _ _ _ _ _ _ _
+    c.confirm_by.result read.setting.setting_same read.setting.steps_same read.same.bytes_same
+    it.made it.missed in
+    told_boots c.args.layout.now _ (writes_of (confirmation (sectors e0 e1)))
+    (n.bytes c.args.device.now)
     (n.bytes c.confirm_by.new.device) c.requires.placed
-    (by_short (λ es. writes_of (confirmation es)) e0 e1 confirmation_by c.in_ok-first.ensures.stored.0
+    (by_short (λ es. writes_of (confirmation es)) e0 e1 confirmation_by
+    c.in_ok-first.ensures.stored.0
     c.in_ok-first.ensures.stored.1)
-    (made_by_left n.may_end n.may_tear n.may_refuse n.must_refuse _ _ _ _ _ _ c.confirm_by.result made)
+    (made_by_left n.may_end n.may_tear n.may_refuse n.must_refuse _ _ _ _ _ _ c.confirm_by.result
+    made)
 
 -- the application that is confirmed boots now
 pub returns-clause-boots : goal.returns-clause-boots
@@ -91,10 +106,16 @@ returns-clause-boots g c =
     let it = c.confirm_by.ensures in
     let e0 = c.in_ok-first.first in
     let e1 = c.in_ok-first.second in
-    let made = made_by n.may_end n.may_tear n.may_refuse n.must_refuse (n.setting c.args.device.now) _ _ _ _ _ _ _ _
-    c.confirm_by.result read.setting.setting_same read.setting.steps_same read.same.bytes_same it.made it.missed in
-    told_confirmed layout (n.size c.args.device.now) e0 e1 (n.bytes c.args.device.now) (n.bytes c.confirm_by.new.device)
-    c.confirm_by.result c.requires.placed (λ flash told. g.met.D.Nor.sized c.args.device.now flash told)
-    c.in_ok-first.ensures.first c.in_ok-first.ensures.second c.in_ok-first.ensures.stored.0 c.in_ok-first.ensures.stored.1
+    let made = made_by n.may_end n.may_tear n.may_refuse n.must_refuse (n.setting c.args.device.now)
+    _ _ _ _ _ _ _ _
+    c.confirm_by.result read.setting.setting_same read.setting.steps_same read.same.bytes_same
+    it.made it.missed in
+    told_confirmed layout (n.size c.args.device.now) e0 e1 (n.bytes c.args.device.now)
+    (n.bytes c.confirm_by.new.device)
+    c.confirm_by.result c.requires.placed
+    (λ flash told. g.met.D.Nor.sized c.args.device.now flash told)
+    c.in_ok-first.ensures.first c.in_ok-first.ensures.second c.in_ok-first.ensures.stored.0
+    c.in_ok-first.ensures.stored.1
     (IfOk-weaker c.confirm_by.result _ _ (λ x all. all.bytes)
-    (made_by_ok n.may_end n.may_tear n.may_refuse n.must_refuse _ _ _ _ _ _ c.confirm_by.result made)) it.answers
+    (made_by_ok n.may_end n.may_tear n.may_refuse n.must_refuse _ _ _ _ _ _ c.confirm_by.result
+    made)) it.answers

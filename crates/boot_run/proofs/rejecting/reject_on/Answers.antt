@@ -24,7 +24,8 @@ returns-in_err-first-clause-steps g c =
     let p = err_from_is_err_and c.from_residual.result c.from_residual.ensures.1 in
     rw (p.1, p.2) (any_whole layout (n.bytes c.args.device.now) _ (λ es whole. (
       missed_none n.may_end n.may_tear n.may_refuse n.must_refuse (n.setting c.args.device.now)
-          (rewrites layout.otadata (writes_of (rejection layout whole es))) (n.steps c.args.device.now) _
+          (rewrites layout.otadata (writes_of (rejection layout whole es)))
+          (n.steps c.args.device.now) _
           (n.bytes c.args.device.now) _ _ c.read_entries.ensures.setting.steps_same
           c.read_entries.ensures.same.bytes_same c.in_err-first.ensures.allowed,
       tt,
@@ -48,13 +49,17 @@ returns-in_err-whole-clause-steps g c =
     let layout = c.args.layout.now in
     let read = c.read_entries.ensures in
     let looked = c.whole_on.ensures in
-    let p = err_from_is_err_and c.from_residual-in_err-whole.result c.from_residual-in_err-whole.ensures.1 in
-    let allowed = subst (λ s. n.may_refuse s (n.steps c.args.device.now) c.in_err-whole.field-0.0) read.setting.setting_same
-    (subst (λ k. n.may_refuse (n.setting c.read_entries.new.device) k c.in_err-whole.field-0.0) read.setting.steps_same
+    let p = err_from_is_err_and c.from_residual-in_err-whole.result
+    c.from_residual-in_err-whole.ensures.1 in
+    let allowed = subst (λ s. n.may_refuse s (n.steps c.args.device.now) c.in_err-whole.field-0.0)
+    read.setting.setting_same
+    (subst (λ k. n.may_refuse (n.setting c.read_entries.new.device) k c.in_err-whole.field-0.0)
+    read.setting.steps_same
     c.in_err-whole.ensures.allowed) in
     rw (p.1, p.2) (any_whole layout (n.bytes c.args.device.now) _ (λ es whole. (
       missed_none n.may_end n.may_tear n.may_refuse n.must_refuse (n.setting c.args.device.now)
-          (rewrites layout.otadata (writes_of (rejection layout whole es))) (n.steps c.args.device.now) _
+          (rewrites layout.otadata (writes_of (rejection layout whole es)))
+          (n.steps c.args.device.now) _
           (n.bytes c.args.device.now) _ _ (looked.setting.steps_same ∙ read.setting.steps_same)
           (looked.same.bytes_same ∙ read.same.bytes_same) allowed,
       tt,
@@ -64,7 +69,8 @@ pub returns-in_err-whole-clause-crash : goal.returns-in_err-whole-clause-crash
 returns-in_err-whole-clause-crash g c =
     let n = g.D.Nor in
     let layout = c.args.layout.now in
-    let p = err_from_is_err_and c.from_residual-in_err-whole.result c.from_residual-in_err-whole.ensures.1 in
+    let p = err_from_is_err_and c.from_residual-in_err-whole.result
+    c.from_residual-in_err-whole.ensures.1 in
     rw p.1 (unread_crash layout _
     (λ flash. writes_of (rejection layout (whole_in layout flash) (entries_in layout flash)))
     (n.bytes c.args.device.now) _ c.requires.placed
@@ -80,17 +86,21 @@ returns-clause-steps g c =
     let looked = c.whole_on.ensures in
     let it = c.reject_by.ensures in
     let whole = is_whole c.in_ok-whole.whole in
-    let told = subst (λ (m : Option (List ℕ)). IfSome m (λ flash. AreTold layout whole (images_in held layout flash)))
+    let told = subst (λ (m : Option (List ℕ)). IfSome m
+    (λ flash. AreTold layout whole (images_in held layout flash)))
     read.same.bytes_same c.in_ok-whole.ensures.told in
     read_whole layout c.in_ok-first.first c.in_ok-first.second whole (n.bytes c.args.device.now)
-    (λ e0 e1 w. AreMadeBy n.may_end n.may_tear n.may_refuse n.must_refuse (n.setting c.args.device.now)
+    (λ e0 e1 w. AreMadeBy n.may_end n.may_tear n.may_refuse n.must_refuse
+    (n.setting c.args.device.now)
     (rewrites layout.otadata (writes_of (just_one (reject_of layout w e0 e1))))
     (n.steps c.args.device.now) (n.steps c.reject_by.new.device) (n.bytes c.args.device.now)
     (n.bytes c.reject_by.new.device) c.reject_by.result
-    × IfOk c.reject_by.result (Answers layout.otadata (named_of layout e0 e1) (just_one (reject_of layout w e0 e1))))
+    × IfOk c.reject_by.result
+    (Answers layout.otadata (named_of layout e0 e1) (just_one (reject_of layout w e0 e1))))
     c.in_ok-first.ensures.first c.in_ok-first.ensures.second told (
       made_by n.may_end n.may_tear n.may_refuse n.must_refuse _ _ _ _ _ _ _ _ _ c.reject_by.result
-          (looked.setting.setting_same ∙ read.setting.setting_same) (looked.setting.steps_same ∙ read.setting.steps_same)
+          (looked.setting.setting_same ∙ read.setting.setting_same)
+          (looked.setting.steps_same ∙ read.setting.steps_same)
           (looked.same.bytes_same ∙ read.same.bytes_same) it.made it.missed,
       it.answers,
     )
@@ -106,18 +116,23 @@ returns-clause-crash g c =
     let e0 = c.in_ok-first.first in
     let e1 = c.in_ok-first.second in
     let whole = is_whole c.in_ok-whole.whole in
-    let told = subst (λ (m : Option (List ℕ)). IfSome m (λ flash. AreTold layout whole (images_in held layout flash)))
+    let told = subst (λ (m : Option (List ℕ)). IfSome m
+    (λ flash. AreTold layout whole (images_in held layout flash)))
     read.same.bytes_same c.in_ok-whole.ensures.told in
-    let made = made_by n.may_end n.may_tear n.may_refuse n.must_refuse (n.setting c.args.device.now) _ _ _ _ _ _ _ _
+    let made = made_by n.may_end n.may_tear n.may_refuse n.must_refuse (n.setting c.args.device.now)
+    _ _ _ _ _ _ _ _
     c.reject_by.result (looked.setting.setting_same ∙ read.setting.setting_same)
-    (looked.setting.steps_same ∙ read.setting.steps_same) (looked.same.bytes_same ∙ read.same.bytes_same) it.made it.missed in
+    (looked.setting.steps_same ∙ read.setting.steps_same)
+    (looked.same.bytes_same ∙ read.same.bytes_same) it.made it.missed in
     on_err_any c.reject_by.result (left_crash layout _
     (λ flash. writes_of (rejection layout (whole_in layout flash) (entries_in layout flash)))
-    (writes_of (rejection layout whole (sectors e0 e1))) (n.bytes c.args.device.now) (n.bytes c.reject_by.new.device)
+    (writes_of (rejection layout whole (sectors e0 e1))) (n.bytes c.args.device.now)
+    (n.bytes c.reject_by.new.device)
     c.requires.placed (λ flash. reject_are layout (whole_in layout flash) (entries_in layout flash))
     (rejection_same layout e0 e1 whole (n.bytes c.args.device.now) c.in_ok-whole.ensures.some
     c.in_ok-first.ensures.first c.in_ok-first.ensures.second told)
-    (made_by_left n.may_end n.may_tear n.may_refuse n.must_refuse _ _ _ _ _ _ c.reject_by.result made))
+    (made_by_left n.may_end n.may_tear n.may_refuse n.must_refuse _ _ _ _ _ _ c.reject_by.result
+    made))
 
 pub returns-clause-still : goal.returns-clause-still
 returns-clause-still g c =
@@ -129,11 +144,15 @@ returns-clause-still g c =
     let e0 = c.in_ok-first.first in
     let e1 = c.in_ok-first.second in
     let whole = is_whole c.in_ok-whole.whole in
-    let made = made_by n.may_end n.may_tear n.may_refuse n.must_refuse (n.setting c.args.device.now) _ _ _ _ _ _ _ _
+    let made = made_by n.may_end n.may_tear n.may_refuse n.must_refuse (n.setting c.args.device.now)
+    _ _ _ _ _ _ _ _
     c.reject_by.result (looked.setting.setting_same ∙ read.setting.setting_same)
-    (looked.setting.steps_same ∙ read.setting.steps_same) (looked.same.bytes_same ∙ read.same.bytes_same) it.made it.missed in
-    told_boots layout _ (writes_of (rejection layout whole (sectors e0 e1))) (n.bytes c.args.device.now)
+    (looked.setting.steps_same ∙ read.setting.steps_same)
+    (looked.same.bytes_same ∙ read.same.bytes_same) it.made it.missed in
+    told_boots layout _ (writes_of (rejection layout whole (sectors e0 e1)))
+    (n.bytes c.args.device.now)
     (n.bytes c.reject_by.new.device) c.requires.placed
     (by_short (λ es. writes_of (rejection layout whole es)) e0 e1 (rejection_by layout whole)
     c.in_ok-first.ensures.stored.0 c.in_ok-first.ensures.stored.1)
-    (made_by_left n.may_end n.may_tear n.may_refuse n.must_refuse _ _ _ _ _ _ c.reject_by.result made)
+    (made_by_left n.may_end n.may_tear n.may_refuse n.must_refuse _ _ _ _ _ _ c.reject_by.result
+    made)

@@ -8,7 +8,8 @@ use Rattle.boot_run.proofs.start.first_on.Given as goal
 abbrev pub invariant-loop-app : goal.invariant-loop-app
 invariant-loop-app g l = let n = g.D.Nor in record {
   on : n.off l.device ≡ false;
-  none : IfSome (n.bytes l.fn.device) (λ flash. first_held (images_in held l.layout flash) (drop l.app-index l.apps)
+  none : IfSome (n.bytes l.fn.device)
+      (λ flash. first_held (images_in held l.layout flash) (drop l.app-index l.apps)
       ≡ first_held (images_in held l.layout flash) l.apps);
   same : IsIdleAsBefore n.bytes n.running l.fn.device l.device;
   setting : KeepsSteps n.size n.setting n.steps l.fn.device l.device;

@@ -13,5 +13,6 @@ some_of P (Err why) is = is
 pub returns-in-Ok : goal.returns-in-Ok
 returns-in-Ok c = record {
   placed = subst (λ o. IfSome o (λ layout. IsPlaced layout 0x100000)) (sym c.ok.ensures.value)
-      (some_of (λ layout. IsPlaced layout 0x100000) c.layout.result (c.layout.ensures.placed 0x100000 c.in-Ok.ensures.fits));
+      (some_of (λ layout. IsPlaced layout 0x100000) c.layout.result
+      (c.layout.ensures.placed 0x100000 c.in-Ok.ensures.fits));
 }

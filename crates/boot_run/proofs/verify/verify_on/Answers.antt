@@ -11,8 +11,10 @@ loop-more-preserved g c =
     let n = g.D.Nor in
     let row = c.args.row.now in
     let b = c.loop-more.invariant in
-    let sized : (flash : List ℕ) → n.bytes c.args.device.now ≡ Some flash → row.offset + row.size ≤ length flash =
-    λ flash told. omega (arith, g.met.D.Nor.sized c.args.device.now flash told, c.requires.inside) in
+    let sized : (flash : List ℕ) → n.bytes c.args.device.now ≡ Some flash → row.offset + row.size ≤
+    length flash =
+    λ flash told. omega (arith, g.met.D.Nor.sized c.args.device.now flash told, c.requires.inside)
+    in
     let got : length (take c.loop-more.more c.loop-more.buffer) ≡ c.loop-more.more =
     omega (arith, length-take c.loop-more.more c.loop-more.buffer, c.loop-more-test.array_long) in
     record {
@@ -39,5 +41,6 @@ returns-clause-verified g c =
     let none : c.loop-more.more ≡ 0 = omega arith in
     told_last (n.bytes c.args.device.now) c.loop-more.verifier row c.loop-more.done c.finish.result
     c.ok.result c.ok.ensures.value
-    (subst (λ m. IfSome (n.bytes c.args.device.now) (λ flash. Between c.loop-more.verifier (slot_in flash row) c.loop-more.done m))
+    (subst (λ m. IfSome (n.bytes c.args.device.now)
+    (λ flash. Between c.loop-more.verifier (slot_in flash row) c.loop-more.done m))
     none c.loop-more.invariant.read) c.finish.ensures.whole c.finish.ensures.ok c.finish.ensures.err

@@ -11,7 +11,8 @@ invariant-loop-more g l = let n = g.D.Nor in record {
   within : l.done ≤ l.row.size;
   rest : l.more ≤ l.row.size - l.done;
   fits : l.more ≤ 4096;
-  read : IfSome (n.bytes l.fn.device) (λ flash. Between l.verifier (slot_in flash l.row) l.done l.more);
+  read : IfSome (n.bytes l.fn.device)
+      (λ flash. Between l.verifier (slot_in flash l.row) l.done l.more);
   same : IsIdleAsBefore n.bytes n.running l.fn.device l.device;
   setting : KeepsSteps n.size n.setting n.steps l.fn.device l.device;
   faults_same : n.faults l.device ≡ n.faults l.fn.device;

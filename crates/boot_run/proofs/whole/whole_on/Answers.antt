@@ -15,7 +15,8 @@ returns-in_ok-app_on-2-clause-told g c =
     c.slots_on.ensures.same.bytes_same c.in_ok-app_on.ensures.found) in
     let test = subst (λ v. TellsOf layout told v Test) (sym c.is_some-then-is_some.ensures)
     (found_tells layout told (n.bytes c.app_on.new.device) Test c.in_ok-app_on-2.field-0
-    (c.app_on.ensures.same.bytes_same ∙ c.slots_on.ensures.same.bytes_same) c.in_ok-app_on-2.ensures.found) in
+    (c.app_on.ensures.same.bytes_same ∙ c.slots_on.ensures.same.bytes_same)
+    c.in_ok-app_on-2.ensures.found) in
     both_told layout told c.in_ok-whole.whole c.is_some.result c.is_some-then-is_some.result
     c.in_ok-whole.ensures.long c.slots_on.ensures.most c.in_ok-whole.ensures.told factory test
 

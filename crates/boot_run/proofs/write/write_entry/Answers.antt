@@ -14,7 +14,8 @@ returns-clause-made g c =
     let program = Program (c.args.otadata + 4096 * c.from-sector.result) c.entry_page.result in
     let same : erase ∷ program ∷ [] ≡ rewrite c.args.otadata c.args.write.now =
     λ i. Erase (c.args.otadata / 4096 + c.from-sector.ensures i)
-    ∷ Program (c.args.otadata + 4096 * c.from-sector.ensures i) (c.entry_page.ensures.exact i) ∷ [] in
+    ∷ Program (c.args.otadata + 4096 * c.from-sector.ensures i) (c.entry_page.ensures.exact i) ∷ []
+    in
     let one = c.in_ok-make_step.ensures in
     let two = c.make_step-2.ensures in
     let set = n.setting c.args.device.now in
@@ -24,7 +25,8 @@ returns-clause-made g c =
     let last = on_made_one n.may_end n.may_tear n.may_refuse n.must_refuse
     (n.setting c.make_step.new.device) program (n.steps c.make_step.new.device)
     (n.steps c.make_step-2.new.device) (n.bytes c.make_step.new.device)
-    (n.bytes c.make_step-2.new.device) c.make_step-2.result two.stopped two.done two.counted two.made in
+    (n.bytes c.make_step-2.new.device) c.make_step-2.result two.stopped two.done two.counted
+    two.made in
     subst (λ (steps : List Step). OnOk c.make_step-2.result
     (AreMade n.may_end n.may_tear n.may_refuse n.must_refuse set steps
     (n.steps c.args.device.now) (n.steps c.make_step-2.new.device) (n.bytes c.args.device.now)
@@ -41,7 +43,8 @@ returns-clause-missed g c =
     let program = Program (c.args.otadata + 4096 * c.from-sector.result) c.entry_page.result in
     let same : erase ∷ program ∷ [] ≡ rewrite c.args.otadata c.args.write.now =
     λ i. Erase (c.args.otadata / 4096 + c.from-sector.ensures i)
-    ∷ Program (c.args.otadata + 4096 * c.from-sector.ensures i) (c.entry_page.ensures.exact i) ∷ [] in
+    ∷ Program (c.args.otadata + 4096 * c.from-sector.ensures i) (c.entry_page.ensures.exact i) ∷ []
+    in
     let one = c.in_ok-make_step.ensures in
     let two = c.make_step-2.ensures in
     let set = n.setting c.args.device.now in
