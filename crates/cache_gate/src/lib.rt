@@ -1,0 +1,6 @@
+//! The two cores as typed states: a core that runs may fetch, and a quiet one may change the flash.
+#![tactic(auto)]
+
+mod said;
+mod turns;
+mod waits;
