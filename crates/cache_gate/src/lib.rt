@@ -1,6 +1,9 @@
 //! The two cores as typed states: a core that runs may fetch, and a quiet one may change the flash.
 #![tactic(auto)]
 
+mod cores;
 mod said;
 mod turns;
 mod waits;
+
+pub use cores::{Core, Ended, Quiet, RestCore};

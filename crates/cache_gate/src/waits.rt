@@ -16,7 +16,7 @@ use std::thread;
 
 /// The resting core runs, once nobody holds its gate. It is still masked.
 #[tactic(auto, using(crate::proofs::Walks::looked, crate::proofs::Walks::by_start, crate::proofs::Walks::works_none))]
-pub(crate) fn start<R: Wait, D: Crash, K: Duty>(
+fn start<R: Wait, D: Crash, K: Duty>(
     rt: &R,
     words: &Words<Bus<D, K>>,
     seat: &mut CoreSeat<Bus<D, K>>,
@@ -139,4 +139,143 @@ fn settle<R: Wait, D: Crash, K: Duty>(
         park(rt, words, seat);
         thread::yield_now();
     }
+}
+
+/// Where the core is asked to park, it does so, and gets its own registers back.
+#[tactic(auto, using(crate::proofs::Walks::looked, crate::proofs::Walks::works_first, crate::proofs::Walks::works_none))]
+pub(crate) fn serve<R: Wait, D: Crash, K: Duty>(
+    rt: &R,
+    words: &Words<Bus<D, K>>,
+    seat: &mut CoreSeat<Bus<D, K>>,
+)
+    requires table { seat.old.table ≡ words.now }
+    requires running { seat.old.view.phase ≡ Running }
+    requires unsaved { IsNone seat.old.view.registers.saved }
+    requires rested { (seat.old.view.turn ≡ false) × (seat.old.view.stepping ≡ false) }
+    ensures exact { held_of seat.new ≡ later_on (held_of seat.old) seat.new.view.seen }
+    ensures works { Worked [] seat.old.view seat.new.view }
+{
+    if words.asked(seat) {
+        pass_by(rt, words, seat);
+    }
+}
+
+/// The core parks, where it is still asked to, and gets its own registers back.
+#[tactic(auto, using(crate::proofs::Walks::works_first))]
+fn pass_by<R: Wait, D: Crash, K: Duty>(
+    rt: &R,
+    words: &Words<Bus<D, K>>,
+    seat: &mut CoreSeat<Bus<D, K>>,
+)
+    requires table { seat.old.table ≡ words.now }
+    requires running { seat.old.view.phase ≡ Running }
+    requires unsaved { IsNone seat.old.view.registers.saved }
+    requires rested { (seat.old.view.turn ≡ false) × (seat.old.view.stepping ≡ false) }
+    ensures exact { held_of seat.new ≡ later_on (held_of seat.old) seat.new.view.seen }
+    ensures works { Worked [] seat.old.view seat.new.view }
+{
+    save(rt, words, seat);
+    park(rt, words, seat);
+    back(rt, words, seat);
+}
+
+/// The lock, once it is free. Meanwhile the core parks where it is asked to.
+#[tactic(auto, using(crate::proofs::Walks::looked, crate::proofs::Walks::by_take, crate::proofs::Walks::works_first, crate::proofs::Walks::works_none))]
+fn lock<R: Wait, D: Crash, K: Duty>(
+    rt: &R,
+    words: &Words<Bus<D, K>>,
+    seat: &mut CoreSeat<Bus<D, K>>,
+)
+    requires table { seat.old.table ≡ words.now }
+    requires running { seat.old.view.phase ≡ Running }
+    requires unsaved { IsNone seat.old.view.registers.saved }
+    requires rested { (seat.old.view.turn ≡ false) × (seat.old.view.stepping ≡ false) }
+    ensures exact { held_of seat.new ≡ to_phase (held_of seat.old) Owning seat.new.view.seen }
+    ensures works { Worked [] seat.old.view seat.new.view }
+{
+    for _ in rt.forever() {
+        if let Ok(()) = words.take_lock(seat) {
+            return;
+        }
+        serve(rt, words, seat);
+        thread::yield_now();
+    }
+}
+
+/// The core takes the lock, masks itself, and is quiet once the other one is out of the way.
+#[tactic(auto, using(crate::proofs::Walks::works_first))]
+pub(crate) fn enter<R: Wait, D: Crash, K: Duty>(
+    rt: &R,
+    words: &Words<Bus<D, K>>,
+    seat: &mut CoreSeat<Bus<D, K>>,
+)
+    requires table { seat.old.table ≡ words.now }
+    requires running { seat.old.view.phase ≡ Running }
+    requires unsaved { IsNone seat.old.view.registers.saved }
+    requires rested { (seat.old.view.turn ≡ false) × (seat.old.view.stepping ≡ false) }
+    ensures exact { held_of seat.new ≡ to_phase (kept (held_of seat.old)
+        (saved_and_masked seat.old.view.registers) seat.new.view.seen) Quiet seat.new.view.seen }
+    ensures works { Worked [] seat.old.view seat.new.view }
+{
+    lock(rt, words, seat);
+    save(rt, words, seat);
+    hush(rt, words, seat);
+}
+
+/// The quiet core lets the other one go, gets its own registers back, and gives the lock back.
+#[tactic(auto, using(crate::proofs::Walks::by_end, crate::proofs::Walks::by_give, crate::proofs::Walks::works_first, crate::proofs::Walks::works_none))]
+pub(crate) fn calm<R: Wait, D: Crash, K: Duty>(
+    rt: &R,
+    words: &Words<Bus<D, K>>,
+    seat: &mut CoreSeat<Bus<D, K>>,
+)
+    requires table { seat.old.table ≡ words.now }
+    requires quiet { seat.old.view.phase ≡ Quiet }
+    requires saved { IsSome seat.old.view.registers.saved }
+    requires rested { (seat.old.view.turn ≡ false) × (seat.old.view.stepping ≡ false) }
+    ensures exact { held_of seat.new ≡ to_phase (kept (held_of seat.old)
+        (restored seat.old.view.registers) seat.new.view.seen) Running seat.new.view.seen }
+    ensures works { Worked [] seat.old.view seat.new.view }
+{
+    words.end(seat);
+    back(rt, words, seat);
+    words.give_lock(seat);
+}
+
+/// The resting core runs, once nobody holds its gate, with its own registers.
+#[tactic(auto, using(crate::proofs::Walks::works_first))]
+pub(crate) fn wake<R: Wait, D: Crash, K: Duty>(
+    rt: &R,
+    words: &Words<Bus<D, K>>,
+    seat: &mut CoreSeat<Bus<D, K>>,
+)
+    requires table { seat.old.table ≡ words.now }
+    requires resting { seat.old.view.phase ≡ Resting }
+    requires saved { IsSome seat.old.view.registers.saved }
+    requires rested { (seat.old.view.turn ≡ false) × (seat.old.view.stepping ≡ false) }
+    ensures exact { held_of seat.new ≡ to_phase (kept (held_of seat.old)
+        (restored seat.old.view.registers) seat.new.view.seen) Running seat.new.view.seen }
+    ensures works { Worked [] seat.old.view seat.new.view }
+{
+    start(rt, words, seat);
+    back(rt, words, seat);
+}
+
+/// The running core masks itself and rests, once nobody asks it to park.
+#[tactic(auto, using(crate::proofs::Walks::works_first))]
+pub(crate) fn retire<R: Wait, D: Crash, K: Duty>(
+    rt: &R,
+    words: &Words<Bus<D, K>>,
+    seat: &mut CoreSeat<Bus<D, K>>,
+)
+    requires table { seat.old.table ≡ words.now }
+    requires running { seat.old.view.phase ≡ Running }
+    requires unsaved { IsNone seat.old.view.registers.saved }
+    requires rested { (seat.old.view.turn ≡ false) × (seat.old.view.stepping ≡ false) }
+    ensures exact { held_of seat.new ≡ to_phase (kept (held_of seat.old)
+        (saved_and_masked seat.old.view.registers) seat.new.view.seen) Resting seat.new.view.seen }
+    ensures works { Worked [] seat.old.view seat.new.view }
+{
+    save(rt, words, seat);
+    settle(rt, words, seat);
 }
