@@ -1,5 +1,5 @@
 -- What a walk of any number of steps did of a core's own work.
-use Rattle.std.proofs.Common.{◌≡◌, ◌==◌, ℕ, ◌+◌, ◌++◌, ◌∙◌, ap, subst, sym, refl, List, [], ◌∷◌, Option, Some, None, append-nil, append_assoc, true, false}
+use Rattle.std.proofs.Common.{◌≡◌, ◌==◌, ℕ, ◌+◌, ◌++◌, ◌∙◌, ap, subst, sym, refl, List, [], ◌∷◌, Option, Some, None, append-nil, append_assoc, true, false, Result, Ok, Err}
 use Rattle.duo_machine.specs.declared.events.Kind.{Kind}
 use Rattle.duo_machine.specs.declared.events.Kind.TheVariants as kinds
 use Rattle.park_words.specs.declared.view.Act.{Act}
@@ -10,7 +10,14 @@ use Rattle.park_words.specs.Story.{entry, done_by, handed, Went, Ran, Saw}
 use Rattle.park_words.specs.Views.{Seated}
 use Rattle.park_words.specs.Told.{Work}
 use Rattle.park_words.proofs.Stories.{own_both, mine_own, ran}
+use Rattle.core_state.specs.declared.registers.Regs.{Regs}
+use Rattle.nor_device.specs.declared.nor.NorFault.{NorFault}
 use Rattle.bus_hub.specs.declared.did.Did.{Did}
+use Rattle.bus_hub.specs.declared.did.Did.TheVariants.{Noted}
+use Rattle.bus_hub.specs.declared.entry.Act.{Act as Noting}
+use Rattle.bus_hub.specs.declared.entry.Act.TheVariants.{Open, Close, Fetch, Set, Mapped, Unmapped, Wrote, Refused}
+use Rattle.bus_hub.specs.Log.{IsNote}
+use Rattle.bus_hub.specs.Told.{asked}
 use Rattle.cache_gate.specs.Works.{work_of, before, act_before, works_of, work_in, Works, Worked, event_of, events_in}
 
 before-append : (kind : Option Kind) (a b : List Kind) → before kind (a ++ b) ≡ before kind a ++ b
@@ -24,7 +31,7 @@ act_before-append Took a b = refl
 act_before-append Gave a b = refl
 
 -- the work of two parts of a run
-works_of-append : (a b : List Entry) → works_of (a ++ b) ≡ works_of a ++ works_of b
+pub works_of-append : (a b : List Entry) → works_of (a ++ b) ≡ works_of a ++ works_of b
 works_of-append [] b = refl
 works_of-append (e ∷ a) b = ap (act_before e.act) (works_of-append a b)
     ∙ act_before-append e.act (works_of a) (works_of b)
@@ -34,6 +41,23 @@ pub events_in-append : (a b : List Did) → events_in (a ++ b) ≡ events_in a +
 events_in-append [] b = refl
 events_in-append (did ∷ a) b = ap (before (event_of did)) (events_in-append a b)
     ∙ before-append (event_of did) (events_in a) (events_in b)
+
+-- a note is no event
+pub note_works : (k : ℕ) (regs : Regs) (act : Noting) → IsNote act
+    → events_in (Noted k regs act ∷ []) ≡ []
+note_works k regs (Open erase at len) note = absurd note
+note_works k regs (Close end') note = absurd note
+note_works k regs (Fetch at start len) note = absurd note
+note_works k regs Set note = absurd note
+note_works k regs (Mapped at) note = refl
+note_works k regs (Unmapped at) note = refl
+note_works k regs Wrote note = refl
+note_works k regs (Refused why) note = refl
+
+-- nor is a read
+pub asked_works : (r : Result (Unit {0}) NorFault) → events_in (asked r) ≡ []
+asked_works (Ok _) = refl
+asked_works (Err why) = refl
 
 -- what the entries of a turn that is given back are of work
 handed_own : (c : ℕ) (kind : Option Kind) → done_by c (handed c kind) ≡ handed c kind

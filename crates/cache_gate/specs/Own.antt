@@ -207,6 +207,12 @@ pub record RanBoth {B : Type 0} (a b : Own B Did) : Type 0 where
   pub first_regs : a.regs ≡ last_set a.core (events_of a.seen) reset
   pub second_regs : b.regs ≡ last_set b.core (events_of b.seen) reset
 
+-- a core that was just opened
+abbrev pub IsFirst : {B : Type 0} → TableId → ℕ → B → Own B Did → Type 0
+IsFirst words c base o =
+    o
+    ≡ record { table = words; core = c; base = Some base; regs = reset; share = []; seen = [] }
+
 -- the base that a bus is opened with
 module _ {D S K : Type 0}
     (bytes : D → Option (List ℕ)) (off : D → Bool) (steps faults : D → ℕ) (setting : D → S) where

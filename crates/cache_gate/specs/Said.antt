@@ -1,16 +1,17 @@
 -- What a core did in one turn: the event, and the items that it adds to its share.
-use Rattle.std.specs.Prelude.{◌≡◌, ℕ, ◌+◌, ◌-◌, ◌≤◌, Bool, true, false, List, [], ◌∷◌, drop, length, Option, Some, None, Result, Ok, Err}
+use Rattle.std.specs.Prelude.{◌≡◌, ℕ, ◌+◌, ◌-◌, ◌≤◌, Bool, true, false, List, [], ◌∷◌, drop, length, Option, Some, None, Result, Ok, Err, ◌⊎◌}
 use Rattle.core_state.specs.declared.registers.Record.{Record}
 use Rattle.core_state.specs.declared.registers.Regs.{Regs}
 use Rattle.duo_machine.specs.declared.events.Kind.{Kind}
 use Rattle.duo_machine.specs.declared.events.Kind.TheVariants as kinds
+use Rattle.nor_device.specs.declared.step.Step.{Step}
 use Rattle.nor_device.specs.declared.nor.Ready.{Ready}
 use Rattle.nor_device.specs.declared.nor.Ready.TheVariants as answers
 use Rattle.nor_device.specs.declared.nor.NorFault.{NorFault}
 use Rattle.park_words.specs.Told.{Work, event_alone, items_alone}
 use Rattle.bus_hub.specs.declared.entry.Act.TheVariants.{Set as SetAct}
 use Rattle.bus_hub.specs.declared.did.Did.{Did}
-use Rattle.bus_hub.specs.declared.did.Did.TheVariants.{Opened, Fetched as FetchedItem, Noted, Denied, Mapping, Unmapping}
+use Rattle.bus_hub.specs.declared.did.Did.TheVariants.{Opened, Closed, Broken, Fetched as FetchedItem, Noted, Denied, Mapping, Unmapping}
 use Rattle.bus_hub.specs.declared.did.Running.{Running as Going}
 use Rattle.bus_hub.specs.declared.reads.FetchNo.{FetchNo}
 use Rattle.bus_hub.specs.Fetch.{space_at}
@@ -21,6 +22,7 @@ use Rattle.bus_hub.specs.Told.{asked, polled, fetch_items, held}
 use Rattle.bus_hub.specs.Shares.{Begun}
 use Rattle.cache_gate.specs.declared.said.Said.{Said}
 use Rattle.cache_gate.specs.declared.said.Said.TheVariants.{Saved, Restored, Set, Noting, Fetched, Starting, Polled, Looked, Mapped, Freed}
+use Rattle.cache_gate.specs.Works.{Works, events_in}
 use Rattle.cache_gate.specs.Own.{Held, behind}
 use Rattle.core_state.specs.Registers.{masked}
 
@@ -115,3 +117,33 @@ abbrev pub GivesRoom : {D S K : Type 0} → Base S K → ℕ → List Did → Hu
 GivesRoom b c share h =
     (n m : ℕ) → needs share + n ≤ (room_of b c).entries → byte_needs share + m ≤ (room_of b c).bytes
     → HasRoomNow h.journal (owed h.running + n) m
+
+-- the items of a step's end
+abbrev pub ended : ℕ → Regs → List ℕ → Result (Unit {0}) NorFault → List Did
+ended k regs left (Ok _) = Closed k regs ∷ []
+ended k regs left (Err why) = Broken k regs why left ∷ []
+
+-- the step that ran has ended so, and left these bytes
+pub record HasFinished {B : Type 0} (k : ℕ) (r : Result (Unit {0}) NorFault) (h h' : Held B Did)
+    : Type 0 where
+  pub left : List ℕ
+  pub is : h' ≡ behind h h.registers false (ended k h.registers.regs left r) h'.seen
+
+-- these items were added to the share, and their events were the work
+pub record Added {B : Type 0} (items : List Did) (h h' : Held B Did) : Type 0 where
+  pub is : h' ≡ behind h h.registers false items h'.seen
+  pub works : Works (events_in items) h.core h.seen h'.core h'.seen
+
+-- a step was broken off
+pub record IsTorn {B : Type 0} (k : ℕ) (step : Step) (why : NorFault) (h h' : Held B Did)
+    : Type 0 where
+  pub left : List ℕ
+  pub added : Added
+      (Opened k h.registers.regs step ∷ Broken k h.registers.regs why left ∷ []) h h'
+
+-- a step was made, or not begun, or broken off
+abbrev pub HasMade : {B : Type 0} → ℕ → Step → Result (Unit {0}) NorFault → Held B Did
+    → Held B Did → Type 0
+HasMade k step (Ok _) h h' =
+    Added (Opened k h.registers.regs step ∷ Closed k h.registers.regs ∷ []) h h'
+HasMade k step (Err why) h h' = Added (Denied why ∷ []) h h' ⊎ IsTorn k step why h h'

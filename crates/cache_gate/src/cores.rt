@@ -10,8 +10,9 @@ ghost use Rattle.bus_hub.specs.declared.reads.FetchNo.TheVariants as refusals;
 ghost use Rattle.bus_hub.specs.Fetch.{IsServed};
 ghost use Rattle.bus_hub.specs.Log.{IsNote};
 ghost use Rattle.bus_hub.specs.Told.{asked};
-ghost use Rattle.cache_gate.specs.Own.{HasRoom, IsInside, MayMake, Keeps, Adds, HasFetched, set_to};
+ghost use Rattle.cache_gate.specs.Own.{HasRoom, IsInside, MayMake, Keeps, Adds, HasFetched, HasStepped, set_to};
 
+use crate::steps;
 use crate::turns;
 use crate::waits;
 use bus_hub::{Act, Bus, Duty, FetchNo};
@@ -130,7 +131,7 @@ impl<'w, D: Crash, K: Duty> RestCore<'w, D, K> {
 
     /// The core goes back to the gates.
     pub fn ended(self) -> Ended<D, K>
-        ensures { result ≡ self }
+        ensures { result ≡ self.entry }
     {
         Ended { seat: self.seat }
     }
@@ -238,6 +239,19 @@ impl<'w, D: Crash, K: Duty> Quiet<'w, D, K> {
             words: self.words,
             seat: self.seat,
         }
+    }
+
+    /// Makes the step, from its begin to its end, under the number of the action.
+    #[tactic(auto, using(crate::proofs::States::quiet_stepped))]
+    pub fn step<R: Wait>(&mut self, rt: &R, k: u32, step: &Step) -> Result<(), NorFault>
+        requires paged { IsInOnePage step.now }
+        requires small { end_of step.now ≤ 2 ^ 32 }
+        requires inside { IsInside self.old.base (end_of step.now) }
+        requires may { MayMake K.part K.grants K.moved self.old.base self.old.core self.old.share step.now }
+        requires room { HasRoom self.old.base self.old.core self.old.share 2 0 }
+        ensures { HasStepped k step.now result self.old self.new }
+    {
+        steps::make(rt, self.words, &mut self.seat, k, step)
     }
 
     /// The bytes of the flash from the address on, as many as `out` has.

@@ -2,8 +2,11 @@
 #![tactic(auto)]
 
 mod cores;
+mod gates;
 mod said;
+mod steps;
 mod turns;
 mod waits;
 
 pub use cores::{Core, Ended, Quiet, RestCore};
+pub use gates::{Gates, open};

@@ -13,7 +13,7 @@ ghost use Rattle.bus_hub.specs.declared.reads.FetchNo.TheVariants as refusals;
 ghost use Rattle.bus_hub.specs.Fetch.{IsServed};
 ghost use Rattle.bus_hub.specs.Log.{IsNote};
 ghost use Rattle.bus_hub.specs.Told.{asked, started};
-ghost use Rattle.cache_gate.specs.Works.{Worked, work_in};
+ghost use Rattle.cache_gate.specs.Works.{Worked, work_in, events_in};
 ghost use Rattle.cache_gate.specs.Own.{held_of, behind, kept, HasRoom, IsInside, MayMake};
 ghost use Rattle.cache_gate.specs.Said.{HasPolled, HasRead, GivesRoom, is_begun, number_of_open, fetch_event, begin_event, done_event};
 ghost use Rattle.bus_hub.specs.Hub.{Fits};
@@ -128,7 +128,8 @@ pub(crate) fn note<R: Wait, D: Crash, K: Duty>(
     requires room { HasRoom seat.old.view.base seat.old.view.core seat.old.view.share 1 0 }
     ensures exact { held_of seat.new ≡ behind (held_of seat.old) seat.old.view.registers false
         (Noted k seat.old.view.registers.regs act ∷ []) seat.new.view.seen }
-    ensures works { Worked [] seat.old.view seat.new.view }
+    ensures works { Worked (events_in (Noted k seat.old.view.registers.regs act ∷ []))
+        seat.old.view seat.new.view }
 {
     let mut bus = take(rt, words, seat);
     known(&bus, seat);
@@ -266,7 +267,7 @@ pub(crate) fn read<R: Wait, D: Crash, K: Duty>(
     ensures exact { held_of seat.new ≡ behind (held_of seat.old) seat.old.view.registers false (asked result)
         seat.new.view.seen }
     ensures length { length out.new ≡ length out.old }
-    ensures works { Worked [] seat.old.view seat.new.view }
+    ensures works { Worked (events_in (asked result)) seat.old.view seat.new.view }
 {
     let mut bus = take(rt, words, seat);
     known(&bus, seat);
