@@ -3,7 +3,7 @@ use Rattle.std.proofs.Common.{◌≡◌, ℕ, ◌++◌, ◌<◌, ◌∙◌, ap, 
 use Rattle.std.specs.Prelude.{IsNone, IsSome}
 use Rattle.core_state.specs.declared.registers.Record.{Record}
 use Rattle.core_state.specs.declared.registers.Regs.{Regs}
-use Rattle.core_state.specs.Registers.{masked, saved_and_masked, restored}
+use Rattle.core_state.specs.Registers.{masked, saved_and_masked, restored, own_registers, reset}
 use Rattle.atomic_table.specs.Seated.{TableId}
 use Rattle.duo_machine.specs.declared.machine.Phase.{Phase}
 use Rattle.duo_machine.specs.declared.machine.Phase.TheVariants.{Running, Quiet}
@@ -13,7 +13,10 @@ use Rattle.nor_device.specs.declared.step.Step.{Step}
 use Rattle.nor_device.specs.declared.nor.Ready.TheVariants as answers
 use Rattle.nor_device.specs.declared.nor.NorFault.{NorFault}
 use Rattle.park_words.specs.declared.view.Entry.{Entry}
-use Rattle.park_words.specs.Story.{done_by}
+use Rattle.duo_machine.specs.Machine.{other}
+use Rattle.duo_machine.specs.Runs.{last_set}
+use Rattle.park_words.specs.Views.{Seated}
+use Rattle.park_words.specs.Story.{done_by, Saw, RanToRest, events_of}
 use Rattle.park_words.proofs.Stories.{own_both}
 use Rattle.bus_hub.specs.declared.did.Did.{Did}
 use Rattle.bus_hub.specs.declared.did.Did.TheVariants.{Opened, Closed, Broken, Fetched, Denied, Missed, Masked}
@@ -21,7 +24,7 @@ use Rattle.bus_hub.specs.declared.reads.FetchNo.{FetchNo}
 use Rattle.bus_hub.specs.declared.reads.FetchNo.TheVariants as refusals
 use Rattle.bus_hub.specs.Shares.{Begun, open_after, open_from}
 use Rattle.cache_gate.specs.Works.{Works, works_of, events_in, work_in}
-use Rattle.cache_gate.specs.Own.{Held, Own, own_of, behind, kept, to_phase, later_on, did, IsTrueTo, IsRunning, IsMaskedIn, Adds, HasStepped, IsBroken}
+use Rattle.cache_gate.specs.Own.{Held, Own, RanBoth, own_of, held_of, behind, kept, to_phase, later_on, did, IsTrueTo, IsRunning, IsMaskedIn, Adds, HasStepped, IsBroken}
 use Rattle.cache_gate.specs.Said.{HasRead, HasPolled, HasFinished, HasMade, IsTorn, Added, fetch_event, ended, number_of_open}
 use Rattle.cache_gate.proofs.Walks.{works_of-append, events_in-append, works_first, works_then}
 
@@ -237,3 +240,33 @@ module _ {B : Type 0} where
           (p ∙ ap (λ (q : Regs). behind m m.registers false (Broken k q why left ∷ []) h'.seen) same)
           refl;
     })
+
+-- the work of a run is that of the beginning that its core has seen
+saw_work : (run seen : List Entry) (c : ℕ) → Saw run c seen
+    → works_of (done_by c run) ≡ works_of (done_by c seen)
+saw_work run seen c s =
+    ap (λ (es : List Entry). works_of (done_by c es)) s.splits
+    ∙ ap works_of (own_both c seen s.later (done_by c seen) [] refl s.none_own
+    ∙ append-nil (done_by c seen))
+
+module _ {B : Type 0} where
+  -- what both cores leave once they have ended
+  pub ran_both : (s t : Seated B Did) → IsTrueTo (held_of s) → IsTrueTo (held_of t)
+      → s.view.core ≡ 0 → t.view.core ≡ 1 → RanToRest s.view t.view
+      → RanBoth (own_of (held_of s)) (own_of (held_of t))
+  ran_both s t first_true second_true zero_is one_is r =
+      let beside : other s.view.core ≡ t.view.core = ap other zero_is ∙ sym one_is in
+      let second : Saw r.story.run t.view.core t.view.seen =
+      subst (λ (n : ℕ). Saw r.story.run n t.view.seen) beside r.story.saw' in
+      record {
+        run = r.story.run;
+        made = r.story.leads.made;
+        saw_first = r.story.saw;
+        saw_second = second;
+        safe = r.safe;
+        first_work = saw_work r.story.run s.view.seen s.view.core r.story.saw ∙ first_true;
+        second_work = saw_work r.story.run t.view.seen t.view.core second ∙ second_true;
+        first_regs = r.own;
+        second_regs = subst (λ (n : ℕ). own_registers t.view.registers
+            ≡ last_set n (events_of t.view.seen) reset) beside r.other_own;
+      }

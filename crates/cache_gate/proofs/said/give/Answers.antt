@@ -10,9 +10,9 @@ give_said-requires g c κs within =
     let e = within.1.1.1.0 in
     let f = within.1.1.1.1.0 in
     let h = within.1.1.1.1.1 in (
-      search (a, b, d, e, f, h, ⊑_meet, ⊑_static) depth 9,
+      search (a, b, d, e, ⊑_meet, ⊑_static) depth 9,
       (
-        search (a, b, d, e, f, h, ⊑_meet, ⊑_static) depth 9,
+        search (f, h, ⊑_meet, ⊑_static) depth 9,
         (
           search (⊑_static),
           (search (⊑_static), (c.requires.table, (c.requires.turn, c.requires.value))),
