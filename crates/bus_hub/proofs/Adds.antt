@@ -1,15 +1,14 @@
 -- One more item at the end of the log, and none.
-use Rattle.std.specs.Prelude.{◌≡◌, ◌==◌, ℕ, zero, suc, ◌+◌, ◌<◌, ◌≤◌, Bool, true, false, cond, List, [], ◌∷◌, ◌++◌, refl, Option, Some, None}
+use Rattle.std.specs.Prelude.{◌≡◌, ◌==◌, ℕ, zero, suc, ◌<◌, ◌≤◌, Bool, cond, List, [], ◌∷◌, ◌++◌, Option, Some}
 use Rattle.std.proofs.Common.{◌∙◌, sym, ap, subst, arith, append-nil}
-use Rattle.core_state.specs.declared.registers.Record.{Record}
-use Rattle.core_state.specs.Sharing.{in_order, GoesOn}
+use Rattle.core_state.specs.Sharing.{GoesOn}
 use Rattle.nor_device.specs.declared.step.Step.{Step}
 use Rattle.nor_device.specs.declared.nor.StepEnd.{StepEnd}
 use Rattle.nor_device.specs.declared.nor.NorFault.{NorFault}
 use Rattle.bus_hub.specs.declared.did.Did.{Did}
 use Rattle.bus_hub.specs.declared.did.Base.{Base}
-use Rattle.bus_hub.specs.Log.{Item, item, of_core, State, change, reached, Rule, Ruled, Stood}
-use Rattle.bus_hub.specs.Hub.{Hub, state_of, begun, Fits, room_of, PowerIs, Stands}
+use Rattle.bus_hub.specs.Log.{item, of_core, State, change, reached, Rule}
+use Rattle.bus_hub.specs.Hub.{Hub, state_of, begun, Fits, PowerIs, Stands}
 use Rattle.bus_hub.proofs.Logs.{of_core-append, reached-append, ruled-append, Keeps}
 
 module _ {D S K P : Type 0}
@@ -19,7 +18,8 @@ module _ {D S K P : Type 0}
     (part : K → ℕ → P) (grants : P → Step → Type 0) (after : K → ℕ → Step → K)
     (good : List ℕ → K → List ℕ → Type 0) where
   abbrev pub Stand : Hub D K → Base S K → List Did → List Did → Type 0
-  Stand = Stands bytes off steps faults setting may_end may_tear may_refuse must_refuse part grants after good
+  Stand = Stands bytes off steps faults setting may_end may_tear may_refuse must_refuse
+      part grants after good
 
   -- what one item more owes: its rule, and that it leads to the bus after the call
   pub record Moves (old new : Hub D K) (c : ℕ) (did : Did) (flash : List ℕ) (noted : ℕ)
@@ -61,7 +61,8 @@ module _ {D S K P : Type 0}
       (s : Stand old b left right) where
     -- the power as the old bus has it, by its own setting
     power_here : PowerIs (off old.dev) s.is_off (must_refuse (setting old.dev) (steps old.dev))
-    power_here = subst (λ (set : S). PowerIs (off old.dev) s.is_off (must_refuse set (steps old.dev)))
+    power_here = subst (λ (set : S). PowerIs (off old.dev) s.is_off (must_refuse set (steps
+        old.dev)))
         (sym s.setting_is) s.power
 
     abbrev now : State K

@@ -1,5 +1,5 @@
 -- What a bus that stands for a base and two shares is, by the log.
-use Rattle.std.specs.Prelude.{◌≡◌, ◌≢◌, ℕ, zero, suc, ◌+◌, ◌<◌, ◌≤◌, Bool, List, [], ◌∷◌, length, refl, Option, Some, None}
+use Rattle.std.specs.Prelude.{◌≡◌, ◌≢◌, ℕ, zero, suc, ◌+◌, ◌<◌, ◌≤◌, Bool, List, length, refl, Option, None}
 use Rattle.std.proofs.Common.{◌∙◌, sym, ap, subst, arith}
 use Rattle.core_state.specs.Sharing.{in_order}
 use Rattle.nor_device.specs.declared.step.Step.{Step}
@@ -11,10 +11,10 @@ use Rattle.bus_hub.specs.declared.did.Did.{Did}
 use Rattle.bus_hub.specs.declared.did.Base.{Base}
 use Rattle.bus_hub.specs.Room.{HasRoom}
 use Rattle.bus_hub.specs.Log.{State, of_core, reached}
-use Rattle.bus_hub.specs.Hub.{Hub, Stands, begun, state_of, needs, byte_needs, owed, room_of, core_of}
-use Rattle.bus_hub.specs.Shares.{Begun, own_begun, open_from, made, made_from, moved_by, ShowsFlash}
+use Rattle.bus_hub.specs.Hub.{Hub, Stands, begun, needs, byte_needs, owed, room_of, core_of}
+use Rattle.bus_hub.specs.Shares.{own_begun, open_from, made, moved_by, ShowsFlash}
 use Rattle.bus_hub.specs.Legal.{LegalTo}
-use Rattle.bus_hub.proofs.Parts.{Knows, known_by_log}
+use Rattle.bus_hub.proofs.Parts.{known_by_log}
 use Rattle.bus_hub.proofs.Rooms.{spent, spent_log, bytes_log}
 use Rattle.bus_hub.proofs.LegalLog.{legal_log}
 use Rattle.bus_hub.proofs.FlashLog.{shows_log}
@@ -29,7 +29,8 @@ module _ {D S K P : Type 0}
     (other : (duty : K) (c o : ℕ) (step : Step) → c ≢ o → part (after duty o step) c ≡ part duty c)
   where
     abbrev pub StandsBy : Hub D K → Base S K → List Did → List Did → Type 0
-    StandsBy = Stands bytes off steps faults setting may_end may_tear may_refuse must_refuse part grants after good
+    StandsBy = Stands bytes off steps faults setting may_end may_tear may_refuse must_refuse
+        part grants after good
 
     -- a core knows its part and its step by the share
     known : (h : Hub D K) (b : Base S K) (left right share : List Did) (c : ℕ)
@@ -37,7 +38,8 @@ module _ {D S K P : Type 0}
         → (part h.duty c ≡ moved_by moved (part b.duty c) (made share))
         × (own_begun c h.running ≡ open_from None share)
     known h b left right share c s is =
-        let k = known_by_log may_end may_tear may_refuse must_refuse part grants moved after own other
+        let k = known_by_log may_end may_tear may_refuse must_refuse part grants moved after own
+        other
         b.setting (begun b) c s.stood.log s.stood.ruled in
         let duty_is : (reached after (begun b) s.stood.log).duty ≡ h.duty =
         ap (λ (t : State K). t.duty) s.stood.leads in
@@ -109,7 +111,8 @@ module _ {D S K P : Type 0}
         s.stood.log s.stood.ruled refl)
 
     -- each fetch shows the flash at its entry
-    pub shows_now : (h : Hub D K) (b : Base S K) (left right : List Did) (s : StandsBy h b left right)
+    pub shows_now : (h : Hub D K) (b : Base S K) (left right : List Did) (s : StandsBy h b left
+        right)
         → ShowsFlash b.map b.flash s.stood.log
     shows_now h b left right s =
         shows_log may_end may_tear may_refuse must_refuse part grants after b.setting (begun b)

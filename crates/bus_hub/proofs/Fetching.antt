@@ -1,5 +1,5 @@
 -- A fetch, by its answer.
-use Rattle.std.specs.Prelude.{◌≡◌, ◌↔◌, ℕ, zero, suc, ◌+◌, ◌-◌, ◌<◌, ◌≤◌, Bool, true, false, IsTrue, List, [], ◌∷◌, ◌++◌, length, drop, refl, Option, Some, None, Result, Ok, Err, IfSome, IsErrOf, OnOk}
+use Rattle.std.specs.Prelude.{◌≡◌, ℕ, ◌<◌, Bool, false, List, [], ◌∷◌, length, drop, refl, Option, Some, None, Result, Ok, Err, IfSome}
 use Rattle.std.proofs.Common.{◌∙◌, sym, ap, subst, arith}
 use Rattle.std.proofs.Math.Seq.{drop_at}
 use Rattle.core_state.specs.declared.registers.Regs.{Regs}
@@ -8,22 +8,19 @@ use Rattle.nor_device.specs.declared.step.Step.{Step}
 use Rattle.nor_device.specs.declared.nor.StepEnd.{StepEnd}
 use Rattle.nor_device.specs.declared.nor.NorFault.{NorFault}
 use Rattle.nor_device.specs.declared.nor.NorFault.TheVariants.{Failed, Off}
-use Rattle.nor_device.specs.Nor.{HasCause}
-use Rattle.mmu_map.specs.Map.{Map}
 use Rattle.bus_hub.specs.declared.reads.FetchNo.{FetchNo}
 use Rattle.bus_hub.specs.declared.reads.FetchNo.TheVariants as refusals
 use Rattle.bus_hub.specs.declared.span.Span.{Span}
 use Rattle.bus_hub.specs.declared.did.Did.{Did}
 use Rattle.bus_hub.specs.declared.did.Did.TheVariants.{Fetched, Denied, Missed, Masked}
 use Rattle.bus_hub.specs.declared.did.Base.{Base}
-use Rattle.bus_hub.specs.Room.{Kept}
 use Rattle.bus_hub.specs.Log.{State, Rule, change}
 use Rattle.bus_hub.specs.Fetch.{IsReachable, IsUnmapped, IsRead, IsServed}
-use Rattle.bus_hub.specs.Hub.{Hub, Fits, Stands, PowerIs, record_of, state_of}
-use Rattle.bus_hub.specs.Told.{Asks, IsSplit, IsBothParts, IsFetched, IsDenied, Fetches, with_device, fetched, fetch_items, added, HasFetchCause}
-use Rattle.bus_hub.proofs.Adds.{adds, still}
+use Rattle.bus_hub.specs.Hub.{Hub, Fits, Stands, state_of}
+use Rattle.bus_hub.specs.Told.{Asks, IsSplit, IsBothParts, IsFetched, IsDenied, Fetches, with_device, fetched, fetch_items, added}
+use Rattle.bus_hub.proofs.Adds.{adds}
 use Rattle.bus_hub.proofs.Stepping.{denied, power_on, powered}
-use Rattle.bus_hub.proofs.Spans.{split_reaches, reachable_mapped, parts_read}
+use Rattle.bus_hub.proofs.Spans.{split_reaches, parts_read}
 
 module _ {D S K P : Type 0}
     (bytes : D → Option (List ℕ)) (size : D → ℕ) (off : D → Bool) (steps faults : D → ℕ)
@@ -35,7 +32,8 @@ module _ {D S K P : Type 0}
     (sized : (device : D) (flash : List ℕ) → bytes device ≡ Some flash
     → length flash ≡ size device) where
   abbrev pub StandsBy : Hub D K → Base S K → List Did → List Did → Type 0
-  StandsBy = Stands bytes off steps faults setting may_end may_tear may_refuse must_refuse part grants after good
+  StandsBy = Stands bytes off steps faults setting may_end may_tear may_refuse must_refuse
+      part grants after good
 
   -- the device refused a read of a range that is there and served
   pub denied_is : (old new : Hub D K) (regs : Regs) (at len : ℕ) (span : Span)
@@ -99,13 +97,15 @@ module _ {D S K P : Type 0}
       (sym out_is)
       (subst (λ (h : Hub D K). GoesOn StandsBy Fits old h c (Fetched k regs at f.data_bytes ∷ []))
       (sym f.is)
-      (adds bytes off steps faults setting may_end may_tear may_refuse must_refuse part grants after good
+      (adds bytes off steps faults setting may_end may_tear may_refuse must_refuse
+      part grants after good
       old (fetched (with_device old new.dev) c k regs at f.data_bytes) c
       (Fetched k regs at f.data_bytes) small (λ flash noted is_off told counted power. record {
         rule = (
           idle,
           f.device.stopped,
-          subst (λ (t : Option (List ℕ)). IfSome t (λ g. IsRead old.map g at f.data_bytes)) told f.read,
+          subst (λ (t : Option (List ℕ)). IfSome t (λ g. IsRead old.map g at f.data_bytes)) told
+              f.read,
         );
         flash_after = flash;
         told = f.device.told ∙ told;
@@ -129,7 +129,8 @@ module _ {D S K P : Type 0}
       → GoesOn StandsBy Fits old new c (did ∷ [])
   mark_is old new c did small same rule none =
       subst (λ (h : Hub D K). GoesOn StandsBy Fits old h c (did ∷ [])) (sym same)
-      (adds bytes off steps faults setting may_end may_tear may_refuse must_refuse part grants after good
+      (adds bytes off steps faults setting may_end may_tear may_refuse must_refuse
+      part grants after good
       old old c did small (λ flash noted is_off told counted power. record {
         rule = rule flash noted is_off told;
         flash_after = flash;
@@ -150,7 +151,8 @@ module _ {D S K P : Type 0}
       → GoesOn StandsBy Fits old new c (Denied why ∷ [])
   denial_is old new c regs at len why small idle d =
       subst (λ (h : Hub D K). GoesOn StandsBy Fits old h c (Denied why ∷ [])) (sym d.is)
-      (denied bytes off steps faults setting may_end may_tear may_refuse must_refuse part grants after good
+      (denied bytes off steps faults setting may_end may_tear may_refuse must_refuse
+      part grants after good
       old new.dev c why small idle d.device.told d.device.steps_same d.device.setting_same
       d.device.allowed d.device.cause)
 
@@ -160,7 +162,8 @@ module _ {D S K P : Type 0}
       → Fetches bytes size off steps faults setting may_refuse must_refuse old new c k regs at len r
       → GoesOn StandsBy Fits old new c
       (fetch_items k regs at len (added old.journal new.journal) r)
-  fetches old new c k regs at len (Ok u) small idle f = entry_is old new c k regs at len small idle f
+  fetches old new c k regs at len (Ok u) small idle f = entry_is old new c k regs at len small
+      idle f
   fetches old new c k regs at len (Err refusals.Unmapped) small idle f =
       mark_is old new c (Missed at len) small f.1
       (λ flash noted is_off told. (

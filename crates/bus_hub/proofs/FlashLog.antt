@@ -1,13 +1,11 @@
 -- The flash at an entry: the first one after the steps that were made before it.
-use Rattle.std.specs.Prelude.{◌≡◌, ℕ, ◌+◌, ◌<◌, List, [], ◌∷◌, ◌++◌, length, refl, Option, Some, None}
-use Rattle.std.proofs.Common.{◌∙◌, sym, ap, subst, arith}
-use Rattle.core_state.specs.declared.registers.Regs.{Regs}
+use Rattle.std.specs.Prelude.{◌≡◌, ℕ, List, [], ◌∷◌, ◌++◌, refl, Option, Some, None}
+use Rattle.std.proofs.Common.{◌∙◌, sym, ap, subst}
 use Rattle.nor_device.specs.declared.step.Step.{Step}
 use Rattle.nor_device.specs.declared.nor.StepEnd.{StepEnd}
 use Rattle.nor_device.specs.declared.nor.NorFault.{NorFault}
-use Rattle.nor_device.specs.Flash.{applied, after_steps}
-use Rattle.nor_device.specs.Torn.{Torn}
-use Rattle.nor_device.proofs.FlashLaws.{length_applied, after_steps_append}
+use Rattle.nor_device.specs.Flash.{after_steps}
+use Rattle.nor_device.proofs.FlashLaws.{after_steps_append}
 use Rattle.mmu_map.specs.Map.{Map}
 use Rattle.bus_hub.specs.declared.did.Running.{Running}
 use Rattle.bus_hub.specs.declared.did.Did.{Did}
@@ -15,7 +13,7 @@ use Rattle.bus_hub.specs.declared.did.Did.TheVariants.{Opened, Closed, Broken, F
 use Rattle.bus_hub.specs.Fetch.{IsRead}
 use Rattle.bus_hub.specs.Log.{Item, item, State, Runs, Rule, change, made_whole, reached}
 use Rattle.bus_hub.specs.Shares.{Begun, begun_of, steps_of, open_after, made_by, made_from, made, all_of, AreUnbroken, map_after_item, map_after_all, ShowsFlash}
-use Rattle.bus_hub.proofs.Logs.{Keeps, reached-append, ruled-front, ruled-back, kept}
+use Rattle.bus_hub.proofs.Logs.{Keeps, ruled-front, ruled-back}
 
 module _ {S K P : Type 0}
     (may_end : S → ℕ → StepEnd → Type 0) (may_tear : S → ℕ → List ℕ → Step → List ℕ → Type 0)
@@ -41,27 +39,59 @@ module _ {S K P : Type 0}
 
   leaves_item : (set : S) (s : State K) (c : ℕ) (did : Did) → AreUnbroken (did ∷ [])
       → Obeys set s c did → Leaves s (change after s c did) did
-  leaves_item set s c (Opened k regs step) whole rule = record { flash_is = refl; open_is = refl; map_is = refl }
+  leaves_item set s c (Opened k regs step) whole rule = record {
+    flash_is = refl;
+    open_is = refl;
+    map_is = refl;
+  }
   leaves_item set s c (Closed k regs) whole rule = record {
     flash_is = whole_flash s c (λ run. run.k ≡ k) s.running rule.0;
     open_is = refl;
     map_is = whole_map s c s.running;
   }
   leaves_item set s c (Broken k regs why left) whole rule = absurd whole
-  leaves_item set s c (Fetched k regs at bytes) whole rule = record { flash_is = refl; open_is = refl; map_is = refl }
-  leaves_item set s c (Noted k regs act) whole rule = record { flash_is = refl; open_is = refl; map_is = refl }
-  leaves_item set s c (Denied why) whole rule = record { flash_is = refl; open_is = refl; map_is = refl }
+  leaves_item set s c (Fetched k regs at bytes) whole rule = record {
+    flash_is = refl;
+    open_is =
+        refl;
+    map_is = refl;
+  }
+  leaves_item set s c (Noted k regs act) whole rule = record {
+    flash_is = refl;
+    open_is = refl;
+    map_is = refl;
+  }
+  leaves_item set s c (Denied why) whole rule = record {
+    flash_is = refl;
+    open_is = refl;
+    map_is
+        = refl;
+  }
   leaves_item set s c (Mapping flash_page n space answer) whole rule = record {
     flash_is = refl;
     open_is = refl;
     map_is = refl;
   }
-  leaves_item set s c (Unmapping at answer) whole rule = record { flash_is = refl; open_is = refl; map_is = refl }
-  leaves_item set s c (Missed at len) whole rule = record { flash_is = refl; open_is = refl; map_is = refl }
-  leaves_item set s c (Masked at len) whole rule = record { flash_is = refl; open_is = refl; map_is = refl }
+  leaves_item set s c (Unmapping at answer) whole rule = record {
+    flash_is = refl;
+    open_is =
+        refl;
+    map_is = refl;
+  }
+  leaves_item set s c (Missed at len) whole rule = record {
+    flash_is = refl;
+    open_is = refl;
+    map_is = refl;
+  }
+  leaves_item set s c (Masked at len) whole rule = record {
+    flash_is = refl;
+    open_is = refl;
+    map_is = refl;
+  }
 
   -- of a log without a break, its first item and the others
-  unbroken_first : (did : Did) (share : List Did) → AreUnbroken (did ∷ share) → AreUnbroken (did ∷ [])
+  unbroken_first : (did : Did) (share : List Did) → AreUnbroken (did ∷ share)
+      → AreUnbroken (did ∷ [])
   unbroken_first (Opened k regs step) share whole = tt
   unbroken_first (Closed k regs) share whole = tt
   unbroken_first (Broken k regs why left) share whole = whole
@@ -113,7 +143,8 @@ module _ {S K P : Type 0}
   shows_log set s log all idle before later c k regs at bytes split whole =
       let parts : Keeps may_end may_tear may_refuse must_refuse part grants after set s
       (before ++ item c (Fetched k regs at bytes) ∷ later) =
-      subst (λ (l : List Item). Keeps may_end may_tear may_refuse must_refuse part grants after set s l)
+      subst (λ (l : List Item). Keeps may_end may_tear may_refuse must_refuse part grants after
+      set s l)
       split all in
       let front = ruled-front may_end may_tear may_refuse must_refuse part grants after set s before
       (item c (Fetched k regs at bytes) ∷ later) parts in

@@ -1,6 +1,6 @@
 -- Every flash that a loss of power may leave is good.
-use Rattle.std.specs.Prelude.{◌≡◌, ◌↔◌, ℕ, ◌<◌, Bool, List, [], ◌∷◌, refl, Option, Some, None}
-use Rattle.std.proofs.Common.{◌∙◌, sym, ap, subst, arith}
+use Rattle.std.specs.Prelude.{◌≡◌, ◌↔◌, ℕ, ◌<◌, Bool, List, Option, Some, None}
+use Rattle.std.proofs.Common.{sym, subst}
 use Rattle.nor_device.specs.declared.step.Step.{Step}
 use Rattle.nor_device.specs.declared.nor.StepEnd.{StepEnd}
 use Rattle.nor_device.specs.declared.nor.NorFault.{NorFault}
@@ -101,7 +101,8 @@ module _ {S K P : Type 0}
       → running device ≡ Some step → bytes device ≡ Some flash
       → may_leave device left ↔ Torn flash step left) where
     abbrev StandsBy : Hub D K → Base S K → List Did → List Did → Type 0
-    StandsBy = Stands bytes off steps faults setting may_end may_tear may_refuse must_refuse part grants after good
+    StandsBy = Stands bytes off steps faults setting may_end may_tear may_refuse must_refuse
+        part grants after good
 
     -- by the step that runs
     leaves_good : (first : List ℕ) (duty : K) (dev : D) (flash left : List ℕ) (o : Option Running)
@@ -114,7 +115,8 @@ module _ {S K P : Type 0}
         torn_good first duty run.core run.step flash left is granted.1
         ((torn_leaves dev run.step flash left runs told).0 leaves)
 
-    pub good_now : (h : Hub D K) → running h.dev ≡ step_of h.running → IsSafe StandsBy may_leave good h
+    pub good_now : (h : Hub D K) → running h.dev ≡ step_of h.running
+        → IsSafe StandsBy may_leave good h
     good_now h runs b left right flash s leaves =
         let there : IsGoodState b.flash (state_of h s.flash (steps h.dev) s.noted s.is_off) =
         subst (λ (state : State K). IsGoodState b.flash state) s.stood.leads

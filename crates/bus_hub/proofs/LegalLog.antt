@@ -1,6 +1,6 @@
 -- The journal of a log is legal.
-use Rattle.std.specs.Prelude.{◌≡◌, ℕ, ◌+◌, ◌<◌, List, [], ◌∷◌, ◌++◌, length, refl, Option, Some, None}
-use Rattle.std.proofs.Common.{◌∙◌, sym, ap, subst, arith}
+use Rattle.std.specs.Prelude.{◌≡◌, ℕ, ◌<◌, List, [], ◌∷◌, ◌++◌, length, refl, Option, Some, None}
+use Rattle.std.proofs.Common.{◌∙◌, sym, ap, subst}
 use Rattle.nor_device.specs.declared.step.Step.{Step}
 use Rattle.nor_device.specs.declared.nor.StepEnd.{StepEnd}
 use Rattle.nor_device.specs.declared.nor.StepEnd.TheVariants as ends
@@ -57,7 +57,8 @@ module _ {S K P : Type 0}
   core_none : (o : Option Running) → o ≡ None → core_of o ≡ None
   core_none o idle = ap core_of idle
 
-  same_entries : (s : State K) (c : ℕ) (o : Option Running) → (made_whole after s c o).entries ≡ s.entries
+  same_entries : (s : State K) (c : ℕ) (o : Option Running) → (made_whole after s c o).entries
+      ≡ s.entries
   same_entries s c None = refl
   same_entries s c (Some run) = refl
 
@@ -67,12 +68,14 @@ module _ {S K P : Type 0}
       legal_more None s.entries (core_of s.running) (entry_of c k regs (opening step)) is small
       (core_none s.running rule.0)
   legal_item set s c (Closed k regs) small rule is =
-      subst (λ (entries : List Entry). LegalTo None (entries ++ entry_of c k regs (Close ends.Done) ∷ []) None)
+      subst (λ (entries : List Entry). LegalTo None (entries
+      ++ entry_of c k regs (Close ends.Done) ∷ []) None)
       (sym (same_entries s c s.running))
       (legal_more None s.entries (core_of s.running) (entry_of c k regs (Close ends.Done)) is small
       (core_runs c (λ run. run.k ≡ k) s.running rule.0))
   legal_item set s c (Broken k regs why left) small rule is =
-      legal_more None s.entries (core_of s.running) (entry_of c k regs (Close (end_by why))) is small
+      legal_more None s.entries (core_of s.running) (entry_of c k regs (Close (end_by why))) is
+      small
       (core_runs c (λ run. (run.k ≡ k) × Torn s.flash run.step left
       × may_tear set s.steps s.flash run.step left) s.running rule.0)
   legal_item set s c (Fetched k regs at bytes) small rule is =

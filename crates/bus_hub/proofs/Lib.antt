@@ -12,3 +12,4 @@ pub mod LegalLog
 pub mod FlashLog
 pub mod Facts
 pub mod Stops
+pub mod Knowing

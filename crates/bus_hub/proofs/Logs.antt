@@ -1,11 +1,11 @@
 -- The log, item by item and in two parts.
-use Rattle.std.specs.Prelude.{◌≡◌, ◌==◌, ℕ, ◌<◌, Bool, true, false, cond, List, [], ◌∷◌, ◌++◌, refl, Option, Some, None}
-use Rattle.std.proofs.Common.{◌∙◌, sym, ap, subst, arith}
+use Rattle.std.specs.Prelude.{◌≡◌, ◌==◌, ℕ, ◌<◌, Bool, true, false, cond, List, [], ◌∷◌, ◌++◌, refl}
+use Rattle.std.proofs.Common.{◌∙◌, ap}
 use Rattle.nor_device.specs.declared.step.Step.{Step}
 use Rattle.nor_device.specs.declared.nor.StepEnd.{StepEnd}
 use Rattle.nor_device.specs.declared.nor.NorFault.{NorFault}
 use Rattle.bus_hub.specs.declared.did.Did.{Did}
-use Rattle.bus_hub.specs.Log.{Item, item, of_core, State, change, reached, Rule, Ruled}
+use Rattle.bus_hub.specs.Log.{Item, of_core, State, change, reached, Rule, Ruled}
 
 -- what a core did, in two parts of a log
 cond_append : (b : Bool) (x : Did) (xs ys : List Did)
@@ -13,7 +13,8 @@ cond_append : (b : Bool) (x : Did) (xs ys : List Did)
 cond_append true x xs ys = refl
 cond_append false x xs ys = refl
 
-pub of_core-append : (c : ℕ) (xs ys : List Item) → of_core c (xs ++ ys) ≡ of_core c xs ++ of_core c ys
+pub of_core-append : (c : ℕ) (xs ys : List Item) → of_core c (xs ++ ys) ≡ of_core c xs
+    ++ of_core c ys
 of_core-append c [] ys = refl
 of_core-append c (x ∷ xs) ys =
     ap (λ (later : List Did). cond (x.core == c) (x.did ∷ later) later) (of_core-append c xs ys)

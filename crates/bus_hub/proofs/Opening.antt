@@ -1,5 +1,5 @@
 -- A bus that was just made stands for its base and no shares.
-use Rattle.std.specs.Prelude.{◌≡◌, ℕ, ◌+◌, ◌<◌, ◌≤◌, Bool, true, false, List, [], ◌∷◌, refl, Option, Some, None}
+use Rattle.std.specs.Prelude.{◌≡◌, ℕ, Bool, true, false, List, [], refl, Option, Some}
 use Rattle.std.proofs.Common.{◌∙◌, sym, ap, subst, arith}
 use Rattle.core_state.specs.declared.registers.Record.{Record}
 use Rattle.nor_device.specs.declared.step.Step.{Step}
@@ -9,7 +9,6 @@ use Rattle.mmu_map.specs.Map.{Map}
 use Rattle.bus_hub.specs.declared.did.Did.{Did}
 use Rattle.bus_hub.specs.declared.did.Base.{Base}
 use Rattle.bus_hub.specs.Room.{Kept, empty_journal}
-use Rattle.bus_hub.specs.Log.{State}
 use Rattle.bus_hub.specs.Hub.{Hub, Stands, IsBaseOf, PowerIs, begun, state_of, opened}
 
 -- at the start the power is as the base says
@@ -28,14 +27,16 @@ module _ {D S K P : Type 0}
     (part : K → ℕ → P) (grants : P → Step → Type 0) (after : K → ℕ → Step → K)
     (good : List ℕ → K → List ℕ → Type 0) where
   abbrev pub StandsBy : Hub D K → Base S K → List Did → List Did → Type 0
-  StandsBy = Stands bytes off steps faults setting may_end may_tear may_refuse must_refuse part grants after good
+  StandsBy = Stands bytes off steps faults setting may_end may_tear may_refuse must_refuse
+      part grants after good
 
   -- the first state is that of the bus
   first_state : (b : Base S K) (dev : D) (map : Map) (journal : Kept) (duty : K)
       → IsBaseOf bytes off steps faults setting b dev map journal duty
       → journal ≡ empty_journal journal.left_room journal.right_room
       → (left right : Record)
-      → begun b ≡ state_of (record (opened dev map journal duty) { left = left; right = right }) b.flash (steps dev) b.faults b.off
+      → begun b ≡ state_of (record (opened dev map journal duty) { left = left; right = right })
+      b.flash (steps dev) b.faults b.off
   first_state b dev map journal duty is empty left right =
       let e1 : journal.entries ≡ [] = ap (λ (j : Kept). j.entries) empty in
       let e2 : journal.bytes ≡ [] = ap (λ (j : Kept). j.bytes) empty in

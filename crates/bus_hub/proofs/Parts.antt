@@ -1,8 +1,7 @@
 -- What a core knows by its own share: its part of the duty, and its step that runs.
-use Rattle.std.specs.Prelude.{◌≡◌, ◌≢◌, ◌==◌, ◌⊎◌, ℕ, zero, suc, ◌+◌, ◌<◌, ◌≤◌, Bool, true, false, cond, List, [], ◌∷◌, ◌++◌, refl, Option, Some, None}
-use Rattle.std.proofs.Common.{◌∙◌, sym, ap, subst, inl, inr, arith, eqb}
+use Rattle.std.specs.Prelude.{◌≡◌, ◌≢◌, ◌==◌, ◌⊎◌, ℕ, Bool, true, false, cond, List, [], ◌∷◌, ◌++◌, refl, Option, Some, None}
+use Rattle.std.proofs.Common.{◌∙◌, sym, ap, subst, inl, inr, eqb}
 use Rattle.std.proofs.lemmas.Bool.Decides.{eqb_tells}
-use Rattle.core_state.specs.Sharing.{in_order}
 use Rattle.nor_device.specs.declared.step.Step.{Step}
 use Rattle.nor_device.specs.declared.nor.StepEnd.{StepEnd}
 use Rattle.nor_device.specs.declared.nor.NorFault.{NorFault}
@@ -10,10 +9,8 @@ use Rattle.nor_device.specs.Torn.{Torn}
 use Rattle.bus_hub.specs.declared.did.Running.{Running}
 use Rattle.bus_hub.specs.declared.did.Did.{Did}
 use Rattle.bus_hub.specs.declared.did.Did.TheVariants.{Opened, Closed, Broken, Fetched, Noted, Denied, Mapping, Unmapping, Missed, Masked}
-use Rattle.bus_hub.specs.declared.did.Base.{Base}
-use Rattle.bus_hub.specs.Log.{Item, item, of_core, run_of, State, Runs, Rule, change, made_whole, reached}
-use Rattle.bus_hub.specs.Hub.{Hub, Stands, begun, state_of}
-use Rattle.bus_hub.specs.Shares.{Begun, begun_of, own_begun, steps_of, open_after, made_by, open_from, made_from, made, moved_by}
+use Rattle.bus_hub.specs.Log.{Item, of_core, run_of, State, Runs, Rule, change, made_whole, reached}
+use Rattle.bus_hub.specs.Shares.{Begun, begun_of, own_begun, steps_of, open_after, made_by, open_from, made_from, moved_by}
 use Rattle.bus_hub.proofs.Logs.{Keeps}
 
 -- steps made one after the other
@@ -114,14 +111,22 @@ module _ {S K P : Type 0}
         let f = closed_other s c o apart (λ run. (run.k ≡ k) × Torn s.flash run.step left
         × may_tear set s.steps s.flash run.step left) s.running rule.0 in
         record { open_is = f.0; part_is = refl }
-    other_item set s c o (Fetched k regs at bytes) apart rule = record { open_is = refl; part_is = refl }
+    other_item set s c o (Fetched k regs at bytes) apart rule = record {
+      open_is = refl;
+      part_is
+          = refl;
+    }
     other_item set s c o (Noted k regs act) apart rule = record { open_is = refl; part_is = refl }
     other_item set s c o (Denied why) apart rule = record { open_is = refl; part_is = refl }
     other_item set s c o (Mapping flash_page n space answer) apart rule = record {
       open_is = refl;
       part_is = refl;
     }
-    other_item set s c o (Unmapping at answer) apart rule = record { open_is = refl; part_is = refl }
+    other_item set s c o (Unmapping at answer) apart rule = record {
+      open_is = refl;
+      part_is =
+          refl;
+    }
     other_item set s c o (Missed at len) apart rule = record { open_is = refl; part_is = refl }
     other_item set s c o (Masked at len) apart rule = record { open_is = refl; part_is = refl }
 
@@ -139,7 +144,8 @@ module _ {S K P : Type 0}
       open_is = later.open_is
           ∙ ap (λ (o : Option Begun). open_from o share) now.open_is ∙ opens_is;
       part_is = later.part_is
-          ∙ ap (λ (o : Option Begun). moved_by moved (part mid.duty c) (made_from o share)) now.open_is
+          ∙ ap (λ (o : Option Begun). moved_by moved (part mid.duty c) (made_from o share))
+          now.open_is
           ∙ ap (λ (p : P). moved_by moved p (made_from opens share)) now.part_is
           ∙ sym (moved_by-append moved (part s.duty c) makes (made_from opens share))
           ∙ ap (λ (steps : List Step). moved_by moved (part s.duty c) steps) makes_is;
@@ -156,9 +162,11 @@ module _ {S K P : Type 0}
         (open_from (own_begun c s.running) (cond (x.core == c) (x.did ∷ share) share))
         (made_from (own_begun c s.running) (cond (x.core == c) (x.did ∷ share) share))
     by_core set s last c x share rule later (inl at) =
-        let mine : Knows c s (change after s x.core x.did) (open_after (own_begun c s.running) x.did)
+        let mine : Knows c s (change after s x.core x.did) (open_after (own_begun c s.running)
+        x.did)
         (made_by (own_begun c s.running) x.did) =
-        subst (λ (n : ℕ). Knows c s (change after s n x.did) (open_after (own_begun c s.running) x.did)
+        subst (λ (n : ℕ). Knows c s (change after s n x.did) (open_after (own_begun c s.running)
+        x.did)
         (made_by (own_begun c s.running) x.did)) (sym at.1)
         (own_item set s c x.did (subst (λ (n : ℕ). Obeys set s n x.did) at.1 rule)) in
         let there : Knows c s last

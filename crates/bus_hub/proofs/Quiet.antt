@@ -1,6 +1,6 @@
 -- Calls that touch no device.
-use Rattle.std.specs.Prelude.{◌≡◌, ℕ, zero, suc, ◌+◌, ◌<◌, ◌≤◌, Bool, true, false, List, [], ◌∷◌, ◌++◌, refl, Option, Some, None, Result}
-use Rattle.std.proofs.Common.{◌∙◌, sym, ap, subst, arith}
+use Rattle.std.specs.Prelude.{◌≡◌, ℕ, zero, suc, ◌<◌, Bool, List, [], ◌∷◌, refl, Option, None, Result}
+use Rattle.std.proofs.Common.{◌∙◌, sym, ap, subst}
 use Rattle.core_state.specs.declared.registers.Record.{Record}
 use Rattle.core_state.specs.declared.registers.Regs.{Regs}
 use Rattle.core_state.specs.Sharing.{GoesOn}
@@ -17,8 +17,7 @@ use Rattle.mmu_map.specs.declared.runs.NoPages.{NoPages}
 use Rattle.mmu_map.specs.declared.runs.NotMapped.{NotMapped}
 use Rattle.mmu_map.specs.Map.{IsMapAnswer, after_map, IsUnmapAnswer, after_unmap}
 use Rattle.bus_hub.specs.declared.did.Base.{Base}
-use Rattle.bus_hub.specs.Hub.{Hub, Fits, Stands, record_of, with_record, noted}
-use Rattle.bus_hub.specs.Told.{set_to}
+use Rattle.bus_hub.specs.Hub.{Hub, Fits, Stands, with_record, noted}
 use Rattle.bus_hub.proofs.Adds.{adds, still}
 
 -- a note is no act of a step and no fetch
@@ -39,7 +38,8 @@ module _ {D S K P : Type 0}
     (part : K → ℕ → P) (grants : P → Step → Type 0) (after : K → ℕ → Step → K)
     (good : List ℕ → K → List ℕ → Type 0) where
   abbrev pub StandsBy : Hub D K → Base S K → List Did → List Did → Type 0
-  StandsBy = Stands bytes off steps faults setting may_end may_tear may_refuse must_refuse part grants after good
+  StandsBy = Stands bytes off steps faults setting may_end may_tear may_refuse must_refuse
+      part grants after good
 
   -- one more entry, with other registers of a core or not
   plain_entry : (old : Hub D K) (c k : ℕ) (regs : Regs) (act : Act) (left right : Record) → c < 2
@@ -47,8 +47,10 @@ module _ {D S K P : Type 0}
       → GoesOn StandsBy Fits old
       (record (noted old c k regs act) { left = left; right = right }) c (Noted k regs act ∷ [])
   plain_entry old c k regs act left right small idle plain =
-      adds bytes off steps faults setting may_end may_tear may_refuse must_refuse part grants after good
-      old (record (noted old c k regs act) { left = left; right = right }) c (Noted k regs act) small
+      adds bytes off steps faults setting may_end may_tear may_refuse must_refuse
+      part grants after good
+      old (record (noted old c k regs act) { left = left; right = right }) c (Noted k regs act)
+      small
       (λ flash count is_off told counted power. record {
         rule = (idle, plain);
         flash_after = flash;
@@ -73,7 +75,8 @@ module _ {D S K P : Type 0}
 
   -- a core sets its registers
   set_by : (old : Hub D K) (c k : ℕ) (regs : Regs) (r : Record) → c < 2 → old.running ≡ None
-      → GoesOn StandsBy Fits old (with_record (noted old c k regs Set) c r) c (Noted k regs Set ∷ [])
+      → GoesOn StandsBy Fits old (with_record (noted old c k regs Set) c r) c (Noted k regs Set ∷
+      [])
   set_by old zero k regs r small idle =
       plain_entry old 0 k regs Set r old.right small idle tt
   set_by old (suc c) k regs r small idle =
@@ -92,7 +95,8 @@ module _ {D S K P : Type 0}
   record_by : (old : Hub D K) (c o : ℕ) (r : Record)
       → GoesOn StandsBy Fits old (with_record old o r) c []
   record_by old c zero r =
-      still bytes off steps faults setting may_end may_tear may_refuse must_refuse part grants after good
+      still bytes off steps faults setting may_end may_tear may_refuse must_refuse
+      part grants after good
       old (with_record old 0 r) c (λ flash count is_off told counted power. record {
         told = told;
         counted = counted;
@@ -103,7 +107,8 @@ module _ {D S K P : Type 0}
         leads = refl;
       })
   record_by old c (suc o) r =
-      still bytes off steps faults setting may_end may_tear may_refuse must_refuse part grants after good
+      still bytes off steps faults setting may_end may_tear may_refuse must_refuse
+      part grants after good
       old (with_record old (suc o) r) c (λ flash count is_off told counted power. record {
         told = told;
         counted = counted;
@@ -127,7 +132,8 @@ module _ {D S K P : Type 0}
   maps old new c flash_page n space answer small idle answered is =
       subst (λ (h : Hub D K). GoesOn StandsBy Fits old h c (Mapping flash_page n space answer ∷ []))
       (sym is)
-      (adds bytes off steps faults setting may_end may_tear may_refuse must_refuse part grants after good
+      (adds bytes off steps faults setting may_end may_tear may_refuse must_refuse
+      part grants after good
       old (record old { map = after_map old.map flash_page n answer }) c
       (Mapping flash_page n space answer) small (λ flash count is_off told counted power. record {
         rule = (idle, answered);
@@ -149,7 +155,8 @@ module _ {D S K P : Type 0}
       → GoesOn StandsBy Fits old new c (Unmapping at answer ∷ [])
   unmaps old new c at answer small idle answered is =
       subst (λ (h : Hub D K). GoesOn StandsBy Fits old h c (Unmapping at answer ∷ [])) (sym is)
-      (adds bytes off steps faults setting may_end may_tear may_refuse must_refuse part grants after good
+      (adds bytes off steps faults setting may_end may_tear may_refuse must_refuse
+      part grants after good
       old (record old { map = after_unmap old.map at answer }) c (Unmapping at answer) small
       (λ flash count is_off told counted power. record {
         rule = (idle, answered);

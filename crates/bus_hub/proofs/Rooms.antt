@@ -1,6 +1,6 @@
 -- The journal is as long as both shares need.
-use Rattle.std.specs.Prelude.{◌≡◌, ◌==◌, ◌⊎◌, ℕ, zero, suc, ◌+◌, ◌<◌, ◌≤◌, Bool, true, false, cond, List, [], ◌∷◌, ◌++◌, length, refl, Option, Some, None}
-use Rattle.std.proofs.Common.{◌∙◌, sym, ap, subst, arith, length-append}
+use Rattle.std.specs.Prelude.{◌≡◌, ◌==◌, ℕ, zero, suc, ◌+◌, ◌<◌, Bool, true, false, cond, List, [], ◌∷◌, ◌++◌, length, refl, Option, Some, None}
+use Rattle.std.proofs.Common.{ap, arith, length-append}
 use Rattle.nor_device.specs.declared.step.Step.{Step}
 use Rattle.nor_device.specs.declared.nor.StepEnd.{StepEnd}
 use Rattle.nor_device.specs.declared.nor.NorFault.{NorFault}
@@ -54,7 +54,8 @@ module _ {S K P : Type 0}
   owed_none : (o : Option Running) → o ≡ None → owed o ≡ 0
   owed_none o idle = ap owed idle
 
-  same_entries : (s : State K) (c : ℕ) (o : Option Running) → (made_whole after s c o).entries ≡ s.entries
+  same_entries : (s : State K) (c : ℕ) (o : Option Running) → (made_whole after s c o).entries
+      ≡ s.entries
   same_entries s c None = refl
   same_entries s c (Some run) = refl
 

@@ -1,7 +1,6 @@
 -- Where the bytes of a range lie.
-use Rattle.std.specs.Prelude.{◌≡◌, ◌≢◌, ℕ, ◌+◌, ◌-◌, ◌%◌, ◌<◌, ◌≤◌, min, List, length, take, drop, get_or, slice_index, refl, Option, Some, None, IfSome}
-use Rattle.std.proofs.Common.{◌∙◌, sym, ap, subst, inl, inr, arith, length-drop}
-use Rattle.std.proofs.Math.ListN.{length-take}
+use Rattle.std.specs.Prelude.{◌≡◌, ◌≢◌, ℕ, ◌+◌, ◌-◌, ◌%◌, ◌<◌, ◌≤◌, min, List, length, drop, slice_index, refl, Option, Some, None, IfSome}
+use Rattle.std.proofs.Common.{◌∙◌, sym, ap, subst, inl, inr, arith}
 use Rattle.std.proofs.Math.Seq.{get_or-take, get_or-drop}
 use Rattle.std.proofs.lemmas.Bool.{cases_lt}
 use Rattle.nor_device.specs.Nor.{part_of}
@@ -47,7 +46,8 @@ module _ (m : Map) (size at len from front : ℕ) (small : len ≤ 256) (some : 
     then_inside = λ less. absurd (omega arith);
   }
 
-  module _ (then : ℕ) (differs : front ≢ len) (then_is : translated m (at + front) ≡ Some then) where
+  module _ (then : ℕ) (differs : front ≢ len) (then_is : translated m (at + front)
+      ≡ Some then) where
     -- the second page begins where the first one ends
     starts : (at + front) % 65536 ≡ 0
     starts = omega arith
@@ -63,7 +63,8 @@ module _ (m : Map) (size at len from front : ℕ) (small : len ≤ 256) (some : 
     then_beyond past = record {
       place = front + (size - then);
       within = omega arith;
-      beyond = not_in_flash (translated m (at + (front + (size - then)))) (then + (size - then)) size
+      beyond = not_in_flash (translated m (at + (front + (size - then)))) (then + (size - then))
+          size
           (in_then (size - then) (omega arith)) (omega arith);
     }
 

@@ -1,7 +1,6 @@
 -- Steps that are begun and polled.
-use Rattle.std.specs.Prelude.{◌≡◌, ◌↔◌, ℕ, zero, suc, ◌+◌, ◌-◌, ◌^◌, ◌<◌, ◌≤◌, min, Bool, true, false, IsTrue, List, [], ◌∷◌, ◌++◌, refl, Option, Some, None, Result, Ok, Err, OnOk, OnErr, IsErrOf, IfSome}
+use Rattle.std.specs.Prelude.{◌≡◌, ℕ, ◌<◌, ◌≤◌, Bool, true, false, List, [], ◌∷◌, refl, Option, Some, None, Result, Ok, Err, OnOk, OnErr, IfSome}
 use Rattle.std.proofs.Common.{◌∙◌, sym, ap, subst, arith}
-use Rattle.core_state.specs.declared.registers.Record.{Record}
 use Rattle.core_state.specs.declared.registers.Regs.{Regs}
 use Rattle.core_state.specs.Sharing.{GoesOn}
 use Rattle.nor_device.specs.declared.step.Step.{Step}
@@ -13,7 +12,7 @@ use Rattle.nor_device.specs.declared.nor.NorFault.{NorFault}
 use Rattle.nor_device.specs.declared.nor.NorFault.TheVariants.{Failed, Off}
 use Rattle.nor_device.specs.Flash.{applied}
 use Rattle.nor_device.specs.Torn.{Torn}
-use Rattle.nor_device.specs.Nor.{Rose, one_more, end_by, HasCause, IsMade, IsLeftTorn}
+use Rattle.nor_device.specs.Nor.{end_by, HasCause, IsMade, IsLeftTorn}
 use Rattle.bus_hub.specs.declared.did.Did.{Did}
 use Rattle.bus_hub.specs.declared.did.Did.TheVariants.{Opened, Closed, Broken, Denied}
 use Rattle.bus_hub.specs.declared.did.Running.{Running}
@@ -67,12 +66,14 @@ powered off stops on = record {
 
 module _ {D S K P : Type 0}
     (bytes : D → Option (List ℕ)) (off : D → Bool) (steps faults : D → ℕ)
-    (setting : D → S) (may_end : S → ℕ → StepEnd → Type 0) (may_tear : S → ℕ → List ℕ → Step → List ℕ → Type 0)
+    (setting : D → S) (may_end : S → ℕ → StepEnd → Type 0) (may_tear : S → ℕ → List ℕ → Step
+    → List ℕ → Type 0)
     (may_refuse : S → ℕ → NorFault → Type 0) (must_refuse : S → ℕ → Type 0)
     (part : K → ℕ → P) (grants : P → Step → Type 0) (after : K → ℕ → Step → K)
     (good : List ℕ → K → List ℕ → Type 0) where
   abbrev pub StandsBy : Hub D K → Base S K → List Did → List Did → Type 0
-  StandsBy = Stands bytes off steps faults setting may_end may_tear may_refuse must_refuse part grants after good
+  StandsBy = Stands bytes off steps faults setting may_end may_tear may_refuse must_refuse
+      part grants after good
 
   abbrev Starting : D → D → Result (Unit {0}) NorFault → Type 0
   Starting = Starts bytes off steps faults setting may_refuse must_refuse
@@ -84,8 +85,10 @@ module _ {D S K P : Type 0}
       → HasCause {T = Unit {0}} (faults old.dev) (faults dev) (off dev) (Err why)
       → GoesOn StandsBy Fits old (with_device old dev) c (Denied why ∷ [])
   denied old dev c why small idle told count set may cause =
-      adds bytes off steps faults setting may_end may_tear may_refuse must_refuse part grants after good
-      old (with_device old dev) c (Denied why) small (λ flash noted is_off told_flash counted power. record {
+      adds bytes off steps faults setting may_end may_tear may_refuse must_refuse
+      part grants after good
+      old (with_device old dev) c (Denied why) small (λ flash noted is_off told_flash counted
+      power. record {
         rule = (idle, may);
         flash_after = flash;
         told = told ∙ told_flash;
@@ -97,7 +100,8 @@ module _ {D S K P : Type 0}
         setting_same = set;
         left_room = refl;
         right_room = refl;
-        leads = ap (λ (n : ℕ). state_of (with_device old dev) flash n (noted_by why noted) (off_by why))
+        leads = ap (λ (n : ℕ). state_of (with_device old dev) flash n (noted_by why noted)
+            (off_by why))
             (sym count);
       })
 
@@ -112,10 +116,13 @@ module _ {D S K P : Type 0}
       subst (λ (h : Hub D K). GoesOn StandsBy Fits old h c (Denied why ∷ [])) (sym err)
       (denied old new.dev c why small idle s.told s.not_counted s.setting_same s.allowed s.cause)
   begins old new c k regs step (Ok u) small idle granted regs_are ok err s =
-      let on : off new.dev ≡ false = power_on u (faults old.dev) (faults new.dev) (off new.dev) s.cause in
-      subst (λ (h : Hub D K). GoesOn StandsBy Fits old h c (Opened k (record_of old c).regs step ∷ []))
+      let on : off new.dev ≡ false = power_on u (faults old.dev) (faults new.dev) (off new.dev)
+      s.cause in
+      subst (λ (h : Hub D K). GoesOn StandsBy Fits old h c (Opened k (record_of old c).regs step
+      ∷ []))
       (sym ok)
-      (adds bytes off steps faults setting may_end may_tear may_refuse must_refuse part grants after good
+      (adds bytes off steps faults setting may_end may_tear may_refuse must_refuse
+      part grants after good
       old (running_step old c k step new.dev) c (Opened k (record_of old c).regs step) small
       (λ flash noted is_off told counted power. record {
         rule = (idle, granted, s.stopped);
@@ -141,13 +148,15 @@ module _ {D S K P : Type 0}
       → GoesOn StandsBy Fits old new c []
   busy_is old new c run is p =
       subst (λ (h : Hub D K). GoesOn StandsBy Fits old h c []) (sym is)
-      (still bytes off steps faults setting may_end may_tear may_refuse must_refuse part grants after good
+      (still bytes off steps faults setting may_end may_tear may_refuse must_refuse
+      part grants after good
       old (with_device old new.dev) c (λ flash noted is_off told counted power. record {
         told = p.busy refl ∙ told;
         counted = omega (arith, counted, p.cause.later);
         power = record {
           went_off = λ is. absurd (clash is);
-          came_back = λ is on. subst (λ (n : ℕ). ¬ must_refuse (setting old.dev) n) (sym p.steps_same)
+          came_back = λ is on. subst (λ (n : ℕ). ¬ must_refuse (setting old.dev) n) (sym
+              p.steps_same)
               (power.came_back is p.powered);
         };
         setting_same = p.setting_same;
@@ -172,11 +181,13 @@ module _ {D S K P : Type 0}
       let on : off new.dev ≡ false =
       power_on answers.Ready (faults old.dev) (faults new.dev) (off new.dev) p.cause in
       subst (λ (h : Hub D K). GoesOn StandsBy Fits old h run.core (Closed run.k regs ∷ [])) (sym is)
-      (adds bytes off steps faults setting may_end may_tear may_refuse must_refuse part grants after good
+      (adds bytes off steps faults setting may_end may_tear may_refuse must_refuse
+      part grants after good
       old (ended_step old run regs ends.Done (after old.duty run.core run.step) new.dev) run.core
       (Closed run.k regs) small (λ flash noted is_off told counted power. record {
         rule = (
-          subst (λ (o : Option Running). Runs run.core (λ r. r.k ≡ run.k) o) (sym runs) (refl, refl),
+          subst (λ (o : Option Running). Runs run.core (λ r. r.k
+              ≡ run.k) o) (sym runs) (refl, refl),
           p.done refl,
         );
         flash_after = applied flash run.step;
@@ -190,7 +201,8 @@ module _ {D S K P : Type 0}
         right_room = refl;
         leads = ap (λ (o : Option Running). record (with_one (made_whole after
             (state_of old flash (steps old.dev) noted is_off) run.core o)
-            (entry_of run.core run.k regs (Close ends.Done))) { running = None; is_off = false }) runs
+            (entry_of run.core run.k regs (Close ends.Done))) { running = None; is_off = false })
+            runs
             ∙ ap (λ (n : ℕ). state_of (ended_step old run regs ends.Done
             (after old.duty run.core run.step) new.dev) (applied flash run.step) n noted false)
             (sym p.steps_same);
@@ -210,10 +222,12 @@ module _ {D S K P : Type 0}
   broken_is old new run regs why runs small is p =
       subst (λ (h : Hub D K). GoesOn StandsBy Fits old h run.core
       (Broken run.k regs why (held (bytes new.dev)) ∷ [])) (sym is)
-      (adds bytes off steps faults setting may_end may_tear may_refuse must_refuse part grants after good
+      (adds bytes off steps faults setting may_end may_tear may_refuse must_refuse
+      part grants after good
       old (ended_step old run regs (end_by why) old.duty new.dev) run.core
       (Broken run.k regs why (held (bytes new.dev))) small (λ flash noted is_off told counted power.
-      let left = subst (λ (t : Option (List ℕ)). IsLeftTorn (may_tear (setting old.dev) (steps old.dev))
+      let left = subst (λ (t : Option (List ℕ)). IsLeftTorn (may_tear (setting old.dev) (steps
+      old.dev))
       (Some run.step) t (bytes new.dev)) told p.torn in
       let is_left : held (bytes new.dev) ≡ left.0 = ap held left.1 in
       record {
@@ -226,7 +240,8 @@ module _ {D S K P : Type 0}
                 (
                   refl,
                   subst (λ (g : List ℕ). Torn flash run.step g) (sym is_left) left.2,
-                  subst (λ (g : List ℕ). may_tear (setting old.dev) (steps old.dev) flash run.step g)
+                  subst (λ (g : List ℕ). may_tear (setting old.dev) (steps old.dev) flash
+                      run.step g)
                       (sym is_left) left.3,
                 ),
               ),
@@ -235,7 +250,8 @@ module _ {D S K P : Type 0}
         flash_after = held (bytes new.dev);
         told = left.1 ∙ ap Some (sym is_left);
         noted_after = noted_by why noted;
-        counted = counted_by why (faults old.dev) (faults new.dev) noted (off new.dev) p.cause counted;
+        counted = counted_by why (faults old.dev) (faults new.dev) noted (off new.dev) p.cause
+            counted;
         is_off_after = off_by why;
         power = power_by why (faults old.dev) (faults new.dev) (off new.dev)
             (must_refuse (setting old.dev) (steps new.dev)) p.cause;
@@ -251,8 +267,10 @@ module _ {D S K P : Type 0}
       → Polling old.dev new.dev (step_of (Some run)) r
       → GoesOn StandsBy Fits old new run.core (polled run.k regs (held (bytes new.dev)) r)
   polls_by old new run regs (Ok answers.Busy) runs small is p = busy_is old new run.core run is p
-  polls_by old new run regs (Ok answers.Ready) runs small is p = ready_is old new run regs runs small is p
-  polls_by old new run regs (Err why) runs small is p = broken_is old new run regs why runs small is p
+  polls_by old new run regs (Ok answers.Ready) runs small is p = ready_is old new run regs runs
+      small is p
+  polls_by old new run regs (Err why) runs small is p = broken_is old new run regs why runs small
+      is p
 
   -- a poll
   pub polls : (old new : Hub D K) (c : ℕ) (regs : Regs) (r : Result Ready NorFault) → c < 2
@@ -267,14 +285,16 @@ module _ {D S K P : Type 0}
 
     by_run : (o : Option Running) → old.running ≡ o → GoesOn StandsBy Fits old new c
         (polled (number_of old.running) (record_of old c).regs (held (bytes new.dev)) r)
-    by_run None runs = absurd (subst (λ (o : Option Running). core_of o ≡ Some c → ⊥) (sym runs) (λ e. cc) core)
+    by_run None runs = absurd (subst (λ (o : Option Running). core_of o ≡ Some c
+        → ⊥) (sym runs) (λ e. cc) core)
     by_run (Some run) runs =
         let at : run.core ≡ c =
         same run.core c (subst (λ (o : Option Running). core_of o ≡ Some c) runs core) in
         let less : run.core < 2 = omega arith in
         let done : new ≡ after_poll after old run (record_of old c).regs r new.dev =
         subst (λ (g : Regs). new ≡ after_poll after old run g r new.dev) regs_are
-        (subst (λ (o : Option Running). IfSome o (λ run. new ≡ after_poll after old run regs r new.dev)) runs is) in
+        (subst (λ (o : Option Running). IfSome o (λ run. new
+        ≡ after_poll after old run regs r new.dev)) runs is) in
         let device : Polling old.dev new.dev (step_of (Some run)) r =
         subst (λ (o : Option Running). Polling old.dev new.dev (step_of o) r) runs p in
         let found = polls_by old new run (record_of old c).regs r runs less done device in
@@ -296,13 +316,15 @@ module _ {D S K P : Type 0}
         (denied old new.dev c why small idle a.told a.steps_same a.setting_same a.allowed a.cause)
     reads old new c (Ok u) small idle is a =
         subst (λ (h : Hub D K). GoesOn StandsBy Fits old h c []) (sym is)
-        (still bytes off steps faults setting may_end may_tear may_refuse must_refuse part grants after good
+        (still bytes off steps faults setting may_end may_tear may_refuse must_refuse
+        part grants after good
         old (with_device old new.dev) c (λ flash noted is_off told counted power. record {
           told = a.told ∙ told;
           counted = omega (arith, counted, a.cause.later);
           power = record {
             went_off = λ is. absurd (clash is);
-            came_back = λ is on. subst (λ (n : ℕ). ¬ must_refuse (setting old.dev) n) (sym a.steps_same)
+            came_back = λ is on. subst (λ (n : ℕ). ¬ must_refuse (setting old.dev) n) (sym
+                a.steps_same)
                 a.stopped;
           };
           setting_same = a.setting_same;
@@ -313,5 +335,6 @@ module _ {D S K P : Type 0}
         })) where
           clash : off new.dev ≡ true → ⊥
           clash is =
-              let on : off new.dev ≡ false = power_on u (faults old.dev) (faults new.dev) (off new.dev) a.cause in
+              let on : off new.dev ≡ false = power_on u (faults old.dev) (faults new.dev) (off
+              new.dev) a.cause in
               cc

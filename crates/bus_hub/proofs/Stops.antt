@@ -1,10 +1,9 @@
 -- Power, size and number of steps by the log, and that nothing comes behind a stop.
-use Rattle.std.specs.Prelude.{◌≡◌, ℕ, ◌+◌, ◌<◌, Bool, List, [], ◌∷◌, ◌++◌, length, refl, Option, Some, None}
-use Rattle.std.proofs.Common.{◌∙◌, sym, ap, subst, arith}
+use Rattle.std.specs.Prelude.{◌≡◌, ℕ, Bool, List, [], ◌∷◌, ◌++◌, length, refl, Option, Some, None}
+use Rattle.std.proofs.Common.{◌∙◌, sym, ap, subst}
 use Rattle.nor_device.specs.declared.step.Step.{Step}
 use Rattle.nor_device.specs.declared.nor.StepEnd.{StepEnd}
 use Rattle.nor_device.specs.declared.nor.NorFault.{NorFault}
-use Rattle.nor_device.specs.Flash.{applied}
 use Rattle.nor_device.specs.Torn.{Torn}
 use Rattle.nor_device.proofs.FlashLaws.{length_applied}
 use Rattle.bus_hub.specs.declared.did.Running.{Running}
@@ -12,9 +11,9 @@ use Rattle.bus_hub.specs.declared.did.Did.{Did}
 use Rattle.bus_hub.specs.declared.did.Did.TheVariants.{Opened, Closed, Broken, Fetched, Noted, Denied, Mapping, Unmapping, Missed, Masked}
 use Rattle.bus_hub.specs.declared.did.Base.{Base}
 use Rattle.bus_hub.specs.Log.{Item, State, Runs, Rule, change, made_whole, reached}
-use Rattle.bus_hub.specs.Hub.{Hub, Stands, PowerIs, begun, state_of}
+use Rattle.bus_hub.specs.Hub.{Hub, Stands, PowerIs, begun}
 use Rattle.bus_hub.specs.Shares.{Begun, begun_of, open_after, open_from, all_of, off_after, off_after_all, count_after, count_after_all, IsStill, AreStill, StopsAt}
-use Rattle.bus_hub.proofs.Logs.{Keeps, kept, ruled-front, ruled-back}
+use Rattle.bus_hub.proofs.Logs.{Keeps, kept, ruled-back}
 
 module _ {K : Type 0} (after : K → ℕ → Step → K) where
   -- one item: the open step, the power, the number of steps
@@ -23,7 +22,8 @@ module _ {K : Type 0} (after : K → ℕ → Step → K) where
     pub off_is : t.is_off ≡ off_after s.is_off did
     pub count_is : t.steps ≡ count_after s.steps did
 
-  whole_steps : (s : State K) (c : ℕ) (o : Option Running) → (made_whole after s c o).steps ≡ s.steps
+  whole_steps : (s : State K) (c : ℕ) (o : Option Running) → (made_whole after s c o).steps
+      ≡ s.steps
   whole_steps s c None = refl
   whole_steps s c (Some run) = refl
 
@@ -119,8 +119,10 @@ module _ {S K P : Type 0}
       → Keeps may_end may_tear may_refuse must_refuse part grants after set s log
       → begun_of s.running ≡ None → StopsAt (must_refuse set) s.steps log
   stops_log set s log all idle before later split closed stops =
-      let parts : Keeps may_end may_tear may_refuse must_refuse part grants after set s (before ++ later) =
-      subst (λ (l : List Item). Keeps may_end may_tear may_refuse must_refuse part grants after set s l)
+      let parts : Keeps may_end may_tear may_refuse must_refuse part grants after set s (before
+      ++ later) =
+      subst (λ (l : List Item). Keeps may_end may_tear may_refuse must_refuse part grants after
+      set s l)
       split all in
       let back = ruled-back may_end may_tear may_refuse must_refuse part grants after set s before
       later parts in
@@ -171,7 +173,8 @@ module _ {S K P : Type 0}
       (sized : (device : D) (flash : List ℕ) → bytes device ≡ Some flash
       → length flash ≡ size device) where
     abbrev StandsBy : Hub D K → Base S K → List Did → List Did → Type 0
-    StandsBy = Stands bytes off steps faults setting may_end may_tear may_refuse must_refuse part grants after good
+    StandsBy = Stands bytes off steps faults setting may_end may_tear may_refuse must_refuse
+        part grants after good
 
     pub size_now : (h : Hub D K) (b : Base S K) (left right : List Did) → StandsBy h b left right
         → length b.flash ≡ size h.dev

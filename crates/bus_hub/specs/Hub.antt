@@ -64,7 +64,8 @@ module _ {D K : Type 0} where
   with_record h zero r = record h { left = r }
   with_record h (suc c) r = record h { right = r }
 
-  -- where its log has led, with this flash, so many failures told, and whether the last answer was that the power is off
+  -- where its log has led, with this flash, so many failures told, and whether the last answer was
+  -- that the power is off
   abbrev pub state_of : Hub D K → List ℕ → ℕ → ℕ → Bool → State K
   state_of h flash steps noted is_off = record {
     flash = flash;
@@ -147,8 +148,8 @@ pub record Fits {S K : Type 0} (b : Base S K) (c : ℕ) (share : List Did) : Typ
   pub entries_fit : needs share ≤ (room_of b c).entries
   pub bytes_fit : byte_needs share ≤ (room_of b c).bytes
 
--- the power, by what the device last answered: where that was that it is off, it is off, or the device may answer again,
--- as a read shows that leaves no item
+-- the power, by what the device last answered: where that was that it is off, it is off, or the
+-- device may answer again, as a read shows that leaves no item
 pub record PowerIs (off is_off : Bool) (must_refuse : Type 0) : Type 0 where
   pub went_off : off ≡ true → is_off ≡ true
   pub came_back : is_off ≡ true → off ≡ false → ¬ must_refuse

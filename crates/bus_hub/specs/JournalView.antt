@@ -1,5 +1,5 @@
 -- How the fields of the journal show in a contract.
-use Rattle.std.specs.Prelude.{ℕ, ◌+◌, ◌^◌, ◌<◌, ◌≤◌, length, vec_capacity}
+use Rattle.std.specs.Prelude.{◌+◌, ◌^◌, ◌<◌, ◌≤◌, vec_capacity}
 use Rattle.bus_hub.specs.declared.journal.Journal.TheInside.{Inside}
 use Rattle.bus_hub.specs.Room.{Kept}
 

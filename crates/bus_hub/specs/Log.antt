@@ -77,8 +77,9 @@ abbrev pub off_by : NorFault → Bool
 off_by Failed = false
 off_by Off = true
 
--- where the log leads: the flash before the step that runs; that step; the map; the duty; the number of steps; how many
--- failures were told; whether the last answer of the device was that the power is off; and the journal
+-- where the log leads: the flash before the step that runs; that step; the map; the duty; the
+-- number of steps; how many failures were told; whether the last answer of the device was that the
+-- power is off; and the journal
 pub record State (K : Type 0) : Type 0 where
   pub flash : List ℕ
   pub running : Option Running

@@ -1,7 +1,6 @@
 -- What a share, or a whole log, says of steps, pages and bytes.
-use Rattle.std.specs.Prelude.{◌≡◌, ◌==◌, ℕ, ◌+◌, ◌<◌, ◌≤◌, Bool, false, cond, List, [], ◌∷◌, ◌++◌, Option, Some, None}
+use Rattle.std.specs.Prelude.{◌≡◌, ◌==◌, ℕ, Bool, false, cond, List, [], ◌∷◌, ◌++◌, Option, Some, None}
 use Rattle.core_state.specs.declared.registers.Regs.{Regs}
-use Rattle.core_state.specs.Sharing.{in_order}
 use Rattle.nor_device.specs.declared.step.Step.{Step}
 use Rattle.nor_device.specs.Flash.{after_steps}
 use Rattle.nor_device.specs.Nor.{one_more}
@@ -9,7 +8,6 @@ use Rattle.mmu_map.specs.Map.{Map, after_map, after_unmap}
 use Rattle.bus_hub.specs.declared.did.Running.{Running}
 use Rattle.bus_hub.specs.declared.did.Did.{Did}
 use Rattle.bus_hub.specs.declared.did.Did.TheVariants.{Opened, Closed, Broken, Fetched, Noted, Denied, Mapping, Unmapping, Missed, Masked}
-use Rattle.bus_hub.specs.declared.did.Base.{Base}
 use Rattle.bus_hub.specs.Fetch.{IsRead}
 use Rattle.bus_hub.specs.Log.{Item, item, off_by}
 
@@ -115,8 +113,8 @@ abbrev pub map_after_all : Map → List Did → Map
 map_after_all m [] = m
 map_after_all m (did ∷ share) = map_after_all (map_after_item m did) share
 
--- up to the first step that was broken off, each fetch of the log shows the bytes of the flash after the steps that were made
--- before it, behind the map as it was then
+-- up to the first step that was broken off, each fetch of the log shows the bytes of the flash
+-- after the steps that were made before it, behind the map as it was then
 abbrev pub ShowsFlash : Map → List ℕ → List Item → Type 0
 ShowsFlash m flash log =
     (before later : List Item) (c k : ℕ) (regs : Regs) (at : ℕ) (bytes : List ℕ)
@@ -177,8 +175,8 @@ abbrev pub AreStill : List Did → Type 0
 AreStill [] = Unit {0}
 AreStill (did ∷ share) = IsStill did × AreStill share
 
--- after the step of this number every read and start is refused: where no step is open behind a first part of the log,
--- nothing is begun, ended or fetched in the rest
+-- after the step of this number every read and start is refused: where no step is open behind a
+-- first part of the log, nothing is begun, ended or fetched in the rest
 abbrev pub StopsAt : (ℕ → Type 0) → ℕ → List Item → Type 0
 StopsAt must_refuse first log =
     (before later : List Item) → log ≡ before ++ later

@@ -1,6 +1,5 @@
 -- What the calls say of the bus, and which items they add.
-use Rattle.std.specs.Prelude.{◌≡◌, ℕ, ◌+◌, ◌-◌, ◌<◌, ◌≤◌, Bool, true, false, IsTrue, List, [], ◌∷◌, length, take, drop, Option, Some, None, IfSome, Result, Ok, Err, OnOk, OnErr, IfErr, IsErrOf}
-use Rattle.core_state.specs.declared.registers.Record.{Record}
+use Rattle.std.specs.Prelude.{◌≡◌, ℕ, ◌+◌, ◌-◌, ◌<◌, ◌≤◌, Bool, false, IsTrue, List, [], ◌∷◌, length, take, drop, Option, Some, None, IfSome, Result, Ok, Err, OnOk, OnErr, IfErr, IsErrOf}
 use Rattle.core_state.specs.declared.registers.Regs.{Regs}
 use Rattle.nor_device.specs.declared.step.Step.{Step}
 use Rattle.nor_device.specs.declared.nor.Ready.{Ready}
@@ -10,11 +9,11 @@ use Rattle.nor_device.specs.declared.nor.StepEnd.TheVariants as ends
 use Rattle.nor_device.specs.declared.nor.NorFault.{NorFault}
 use Rattle.nor_device.specs.declared.nor.NorFault.TheVariants as whys
 use Rattle.nor_device.specs.Nor.{Rose, one_more, end_by, part_of, HasCause, IsMade, IsLeftTorn}
-use Rattle.bus_hub.specs.declared.entry.Act.TheVariants.{Close, Fetch, Set}
+use Rattle.bus_hub.specs.declared.entry.Act.TheVariants.{Close, Fetch}
 use Rattle.bus_hub.specs.declared.did.Running.{Running}
 use Rattle.bus_hub.specs.declared.did.Did.{Did}
 use Rattle.bus_hub.specs.declared.did.Base.{Base}
-use Rattle.bus_hub.specs.declared.did.Did.TheVariants.{Opened, Closed, Broken, Fetched, Noted, Denied, Missed, Masked}
+use Rattle.bus_hub.specs.declared.did.Did.TheVariants.{Opened, Closed, Broken, Fetched, Denied, Missed, Masked}
 use Rattle.bus_hub.specs.Room.{Kept, with_entry, with_bytes}
 use Rattle.mmu_map.specs.Map.{Map, translated}
 use Rattle.bus_hub.specs.declared.reads.FetchNo.{FetchNo}
@@ -22,7 +21,7 @@ use Rattle.bus_hub.specs.declared.reads.FetchNo.TheVariants as refusals
 use Rattle.bus_hub.specs.declared.span.Span.{Span}
 use Rattle.bus_hub.specs.Fetch.{IsReachable, IsUnmapped, IsRead, IsServed}
 use Rattle.bus_hub.specs.Log.{entry_of, opening, run_of}
-use Rattle.bus_hub.specs.Hub.{Hub, record_of, with_record, noted, step_of}
+use Rattle.bus_hub.specs.Hub.{Hub, record_of, with_record, noted}
 
 -- what a read adds: a mark where it was refused
 abbrev pub asked : Result (Unit {0}) NorFault → List Did
@@ -144,7 +143,8 @@ module _ {D K : Type 0} where
             (entry_of c k regs (Fetch at (length h.journal.bytes) (length bytes)));
       }
 
--- where the bytes of a range lie: so many from one flash address on, and the others from another one on
+-- where the bytes of a range lie: so many from one flash address on, and the others from another
+-- one on
 pub record IsSplit (m : Map) (size at len : ℕ) (span : Span) : Type 0 where
   pub some : 1 ≤ span.front
   pub most : span.front ≤ len
@@ -165,13 +165,15 @@ module _ {D K S : Type 0}
     (bytes : D → Option (List ℕ)) (size : D → ℕ) (off : D → Bool) (steps faults : D → ℕ)
     (setting : D → S)
     (may_refuse : S → ℕ → NorFault → Type 0) (must_refuse : S → ℕ → Type 0) where
-  -- a fetch that was answered: each address is there and served, and the bytes are those of the flash behind the map
+  -- a fetch that was answered: each address is there and served, and the bytes are those of the
+  -- flash behind the map
   pub record IsFetched (old new : Hub D K) (c k : ℕ) (regs : Regs) (at len : ℕ) : Type 0 where
     pub data_bytes : List ℕ
     pub many : length data_bytes ≡ len
     pub reachable : IsReachable old.map (size old.dev) at len
     pub served : IsServed regs.mask at
-    pub device : Asks bytes size off steps faults setting may_refuse must_refuse old.dev new.dev (Ok tt)
+    pub device : Asks bytes size off steps faults setting may_refuse must_refuse
+        old.dev new.dev (Ok tt)
     pub read : IfSome (bytes old.dev) (λ flash. IsRead old.map flash at data_bytes)
     pub is : new ≡ fetched (with_device old new.dev) c k regs at data_bytes
 
@@ -180,7 +182,8 @@ module _ {D K S : Type 0}
       : Type 0 where
     pub reachable : IsReachable old.map (size old.dev) at len
     pub served : IsServed regs.mask at
-    pub device : Asks bytes size off steps faults setting may_refuse must_refuse old.dev new.dev (Err why)
+    pub device : Asks bytes size off steps faults setting may_refuse must_refuse
+        old.dev new.dev (Err why)
     pub is : new ≡ with_device old new.dev
 
   -- what a fetch says, by its answer
@@ -193,7 +196,8 @@ module _ {D K S : Type 0}
   Fetches old new c k regs at len (Err refusals.Off) = IsDenied old new regs at len whys.Off
   Fetches old new c k regs at len (Err refusals.Failed) = IsDenied old new regs at len whys.Failed
 
--- why a fetch was refused by the device: a failure only where the count of faults rose, and off only where the power is off
+-- why a fetch was refused by the device: a failure only where the count of faults rose, and off
+-- only where the power is off
 pub record HasFetchCause (before now : ℕ) (off : Bool) (r : Result (Unit {0}) FetchNo)
     : Type 0 where
   pub later : before ≤ now
@@ -202,7 +206,8 @@ pub record HasFetchCause (before now : ℕ) (off : Bool) (r : Result (Unit {0}) 
   pub off_is : IsErrOf r refusals.Off → IsTrue off
   pub on_is : OnOk r (off ≡ false)
 
--- every flash that a loss of power may leave now is good by the duty, for each base and shares that the bus stands for
+-- every flash that a loss of power may leave now is good by the duty, for each base and shares that
+-- the bus stands for
 abbrev pub IsSafe : {D S K : Type 0} → (Hub D K → Base S K → List Did → List Did → Type 0)
     → (D → List ℕ → Type 0) → (List ℕ → K → List ℕ → Type 0) → Hub D K → Type 0
 IsSafe {D} {S} {K} stands may_leave good h =

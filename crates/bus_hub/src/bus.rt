@@ -5,6 +5,7 @@ ghost use Rattle.core_state.specs.Registers.{starting};
 ghost use Rattle.bus_hub.specs.declared.did.Base.{Base};
 ghost use Rattle.bus_hub.specs.declared.did.Did.{Did};
 ghost use Rattle.bus_hub.specs.Room.{empty_journal};
+ghost use Rattle.bus_hub.specs.Legal.{IsLegal};
 ghost use Rattle.bus_hub.specs.Told.{IsSafe};
 ghost use Rattle.bus_hub.specs.Hub.{Hub, Stands, IsBaseOf, IsTold, opened, record_of, core_of};
 
@@ -16,7 +17,8 @@ use crash_images::Crash;
 use mmu_map::Pages;
 use std::marker::Model;
 
-/// The device with the pages that the cache shows of it, the journal, the duty, and both cores' registers.
+/// The device with the pages that the cache shows of it, the journal, the duty, and both cores'
+/// registers.
 #[derive(Drop)]
 pub struct Bus<D: Crash, K: Duty> {
     pub(crate) dev: D,
@@ -82,15 +84,16 @@ impl<D: Crash, K: Duty> Records for Bus<D, K> {
 }
 
 impl<D: Crash, K: Duty> Bus<D, K> {
-    /// A bus over an idle device whose flash is good, with an empty journal. Both cores have their registers at
-    /// reset saved. It stands for its base and no shares.
+    /// A bus over an idle device whose flash is good, with an empty journal. Both cores have their
+    /// registers at reset saved. It stands for its base and no shares.
     pub fn new(dev: D, pages: Pages, journal: Journal, duty: K) -> Bus<D, K>
         requires idle { D.running dev ≡ None }
         requires told { IsTold (D.bytes dev) }
         requires good { (flash : List ℕ) → D.bytes dev ≡ Some flash → K.good flash duty flash }
         requires empty { journal ≡ empty_journal journal.left_room journal.right_room }
         ensures exact { result ≡ opened dev pages journal duty }
-        ensures stands { (b : Base D.Setting K) → IsBaseOf D.bytes D.off D.steps D.faults D.setting b dev pages journal duty
+        ensures stands { (b : Base D.Setting K)
+            → IsBaseOf D.bytes D.off D.steps D.faults D.setting b dev pages journal duty
             → ⟦<Bus<D, K> as Records>⟧.stands result b [] [] }
         ensures leaves { IsSafe ⟦<Bus<D, K> as Records>⟧.stands D.may_leave K.good result }
     {
@@ -107,13 +110,25 @@ impl<D: Crash, K: Duty> Bus<D, K> {
         bus
     }
 
-    /// Gives device, journal and duty back.
-    pub fn into_parts(self) -> (D, Journal, K)
+    /// The parts.
+    fn split(self) -> (D, Journal, K)
         requires idle { self.running ≡ None }
         ensures exact { result ≡ (self.dev, self.journal, self.duty) }
         ensures idle { D.running result.0 ≡ None }
     {
         (self.dev, self.journal, self.duty)
+    }
+
+    /// Gives device, journal and duty back. The journal is legal, and no step is open at its end.
+    pub fn into_parts(self) -> (D, Journal, K)
+        requires idle { self.running ≡ None }
+        ensures exact { result ≡ (self.dev, self.journal, self.duty) }
+        ensures idle { D.running result.0 ≡ None }
+        ensures legal { (b : Base D.Setting K) (left right : List Did)
+            → ⟦<Bus<D, K> as Records>⟧.stands self b left right → IsLegal result.1.entries }
+    {
+        self.legal();
+        self.split()
     }
 
     /// The duty.

@@ -77,8 +77,9 @@ pub enum Did {
     },
 }
 
-/// What is fixed when the bus is made: flash, pages, duty, the rooms of both cores, and of the device its
-/// setting, number of steps, count of faults and whether its power is off. No value of it is made.
+/// What is fixed when the bus is made: flash, pages, duty, the rooms of both cores, and of the
+/// device its setting, number of steps, count of faults and whether its power is off. No value of
+/// it is made.
 pub struct Base<S, K> {
     pub flash: LinkedList<u8>,
     pub map: Pages,

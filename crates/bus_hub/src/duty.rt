@@ -7,12 +7,15 @@ ghost use Rattle.nor_device.specs.Torn.{Torn};
 
 use nor_device::Step;
 
-/// What each core may do. The bus asks it before each step, and tells it of each step that ended whole.
+/// What each core may do. The bus asks it before each step, and tells it of each step that ended
+/// whole.
 ///
-/// What a core may do depends on the duty at the opening and on that core's own steps alone, so a core knows
-/// it whatever the other one did. And whatever is allowed keeps the flash good, wherever it is cut short.
+/// What a core may do depends on the duty at the opening and on that core's own steps alone, so a
+/// core knows it whatever the other one did. And whatever is allowed keeps the flash good, wherever
+/// it is cut short.
 pub trait Duty {
-    /// What decides of what a core may do: what the duty was at the opening, and the core's own steps.
+    /// What decides of what a core may do: what the duty was at the opening, and the core's own
+    /// steps.
     type Part;
 
     /// The part of a core.

@@ -52,7 +52,8 @@ impl Journal {
     pub fn with_room(alloc: Global, rooms: [Room; 2]) -> Result<Journal, Memory>
         requires entries { (room_in rooms 0).entries + (room_in rooms 1).entries < 2 ^ 32 }
         requires bytes { (room_in rooms 0).bytes + (room_in rooms 1).bytes < 2 ^ 32 }
-        ensures exact { IfOk result (λ journal. journal ≡ empty_journal (room_in rooms 0) (room_in rooms 1)) }
+        ensures exact { IfOk result (λ journal.
+            journal ≡ empty_journal (room_in rooms 0) (room_in rooms 1)) }
     {
         let left_room = rooms[0];
         let right_room = rooms[1];

@@ -2,6 +2,7 @@
 
 ghost use Rattle.std.specs.Prelude.{◌≡◌, ℕ, ◌+◌, ◌<◌, ◌≤◌, List, None, length};
 ghost use Rattle.core_state.specs.Sharing.{in_order};
+ghost use Rattle.nor_device.specs.declared.step.Step.{Step};
 ghost use Rattle.bus_hub.specs.declared.did.Base.{Base};
 ghost use Rattle.bus_hub.specs.declared.did.Did.{Did};
 ghost use Rattle.bus_hub.specs.Room.{HasRoom};
@@ -23,8 +24,8 @@ impl<D: Crash, K: Duty> Bus<D, K> {
         let _ = &self.dev;
     }
 
-    /// A core knows by its own share what it may do, which step of its own runs, and how much room the journal
-    /// has for it, whatever the other core did.
+    /// A core knows by its own share what it may do, which step of its own runs, and how much room
+    /// the journal has for it, whatever the other core did.
     pub fn known(&self)
         ensures part { (b : Base D.Setting K) (c : ℕ) (mine theirs : List Did) → c < 2
             → in_order (⟦<Bus<D, K> as Records>⟧.stands self.now b) c mine theirs
@@ -36,6 +37,10 @@ impl<D: Crash, K: Duty> Bus<D, K> {
             → in_order (⟦<Bus<D, K> as Records>⟧.stands self.now b) c mine theirs
             → needs mine + n ≤ (room_of b c).entries → byte_needs mine + m ≤ (room_of b c).bytes
             → HasRoom self.now.journal (owed self.now.running + n) m }
+        ensures may { (b : Base D.Setting K) (c : ℕ) (mine theirs : List Did) (step : Step) → c < 2
+            → in_order (⟦<Bus<D, K> as Records>⟧.stands self.now b) c mine theirs
+            → K.grants (moved_by K.moved (K.part b.duty c) (made mine)) step
+            → K.grants (K.part self.now.duty c) step }
     {}
 
     /// The journal is legal, and each fetch shows the bytes of the flash as it was then.
@@ -48,8 +53,8 @@ impl<D: Crash, K: Duty> Bus<D, K> {
             → ShowsFlash b.map b.flash s.stood.log }
     {}
 
-    /// Size, number of steps and power of the device by the log. Where every read and start is refused after
-    /// the last step, the log has no more steps and fetches.
+    /// Size, number of steps and power of the device by the log. Where every read and start is
+    /// refused after the last step, the log has no more steps and fetches.
     pub fn lasting(&self)
         ensures size { (b : Base D.Setting K) (left right : List Did)
             → ⟦<Bus<D, K> as Records>⟧.stands self.now b left right

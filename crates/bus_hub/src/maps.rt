@@ -20,13 +20,14 @@ impl<D: Crash, K: Duty> Bus<D, K> {
         requires some { 1 ≤ n }
         requires flash { flash_page + n ≤ 256 }
         ensures answer { IsMapAnswer self.old.map n space result }
-        ensures exact { self.new ≡ record self.old { map = after_map self.old.map flash_page n result } }
+        ensures exact { self.new
+            ≡ record self.old { map = after_map self.old.map flash_page n result } }
     {
         self.pages.map(flash_page, n, space)
     }
 
-    /// Maps the lowest `n` free pages of the space to the flash pages from `flash_page` on. Answers the
-    /// address of the first one.
+    /// Maps the lowest `n` free pages of the space to the flash pages from `flash_page` on. Answers
+    /// the address of the first one.
     #[tactic(auto, using(crate::proofs::Quiet::maps))]
     pub fn map(&mut self, c: u8, flash_page: u32, n: u8, space: Space) -> Result<u32, NoPages>
         requires core { c < 2 }
@@ -36,7 +37,8 @@ impl<D: Crash, K: Duty> Bus<D, K> {
         ensures stands { GoesOn ⟦<Bus<D, K> as Records>⟧.stands Fits self.old self.new c
             (Mapping flash_page n space result ∷ []) }
         ensures answer { IsMapAnswer self.old.map n space result }
-        ensures exact { self.new ≡ record self.old { map = after_map self.old.map flash_page n result } }
+        ensures exact { self.new
+            ≡ record self.old { map = after_map self.old.map flash_page n result } }
         ensures leaves { IsSafe ⟦<Bus<D, K> as Records>⟧.stands D.may_leave K.good self.new }
     {
         let answer = self.map_pages(flash_page, n, space);

@@ -61,7 +61,8 @@ impl<D: Crash, K: Duty> Bus<D, K> {
         requires core { c < 2 }
         requires idle { self.old.running ≡ None }
         requires inside { at + length out.old ≤ D.size self.old.dev }
-        ensures stands { GoesOn ⟦<Bus<D, K> as Records>⟧.stands Fits self.old self.new c (asked result) }
+        ensures stands { GoesOn ⟦<Bus<D, K> as Records>⟧.stands Fits self.old self.new c
+            (asked result) }
         ensures bytes { OnOk result (IsPart (D.bytes self.old.dev) at (length out.old) out.new) }
         ensures exact { self.new ≡ with_device self.old self.new.dev }
         ensures cause { HasCause (D.faults self.old.dev) (D.faults self.new.dev)
@@ -77,7 +78,8 @@ impl<D: Crash, K: Duty> Bus<D, K> {
     fn span_of(&self, at: u32, len: u32) -> Option<Span>
         requires some { 1 ≤ len }
         requires most { len ≤ 256 }
-        ensures some { IfSome result (λ span. IsSplit self.now.map (D.size self.now.dev) at len span) }
+        ensures some { IfSome result
+            (λ span. IsSplit self.now.map (D.size self.now.dev) at len span) }
         ensures none { IsNone result → IsUnmapped self.now.map (D.size self.now.dev) at len }
     {
         span_in(&self.pages, self.dev.size(), at, len)

@@ -86,7 +86,8 @@ impl<D: Crash, K: Duty> Bus<D, K> {
         requires core { c < 2 }
         requires saved { IsNone (record_of self.old c).saved }
         ensures stands { GoesOn ⟦<Bus<D, K> as Records>⟧.stands Fits self.old self.new c [] }
-        ensures exact { self.new ≡ with_record self.old c (saved_and_masked (record_of self.old c)) }
+        ensures exact { self.new
+            ≡ with_record self.old c (saved_and_masked (record_of self.old c)) }
         ensures leaves { IsSafe ⟦<Bus<D, K> as Records>⟧.stands D.may_leave K.good self.new }
     {
         let mut r = self.record(c);

@@ -10,7 +10,8 @@ use nor_device::{Nor, NorFault};
 /// The bytes of a page.
 const PAGE_SIZE: u32 = 0x1_0000;
 
-/// Where the bytes of a range lie in the flash: `front` of them from `from` on, and the others from `then` on.
+/// Where the bytes of a range lie in the flash: `front` of them from `from` on, and the others from
+/// `then` on.
 #[derive(Clone, Copy)]
 pub struct Span {
     pub from: u32,

@@ -23,7 +23,8 @@ pub record IsGood (m : Map) : Type 0 where
   pub whole : (space : Space) → AreWhole (uses_in m space)
 
 -- the uses of a space that were replaced, and those of the other space
-uses_same : (m : Map) (space : Space) (uses : List PageUse) → uses_in (with_uses m space uses) space ≡ uses
+uses_same : (m : Map) (space : Space) (uses : List PageUse)
+    → uses_in (with_uses m space uses) space ≡ uses
 uses_same m Data uses = refl
 uses_same m Code uses = refl
 
@@ -277,9 +278,11 @@ empty_leads a = elim (lies a) [
   nowhere : (space : Space) (page : ℕ) → page < pages_in space
       → flash_address a (flash_page_of (use_at (uses_in empty space) page)) ≡ None
   nowhere Data page inside =
-      ap (λ (used : PageUse). flash_address a (flash_page_of used)) (get_or-replicate 64 page Free Free inside)
+      ap (λ (used : PageUse). flash_address a (flash_page_of used)) (get_or-replicate 64 page
+      Free Free inside)
   nowhere Code page inside =
-      ap (λ (used : PageUse). flash_address a (flash_page_of used)) (get_or-replicate 51 page Free Free inside)
+      ap (λ (used : PageUse). flash_address a (flash_page_of used)) (get_or-replicate 51 page
+      Free Free inside)
 
 pub each_leads : (calls : List Call) (a : ℕ) → CanMakeAll empty calls
     → translated (after_calls empty calls) a ≡ leads_after calls a None

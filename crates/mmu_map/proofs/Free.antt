@@ -58,7 +58,8 @@ module _ (uses : List PageUse) (n i run longest : ℕ) (s : IsScanned uses n i r
   last_free : (first k : ℕ) → AreFree uses first k → first + k ≡ i + 1 → k ≤ run + 1
   last_free first k free ends = elim (cases_lt 0 k) [
     | inl some ↦
-        let before : k - 1 ≤ run = s.last first (k - 1) (shorter uses first k (k - 1) free (omega arith)) (omega arith) in
+        let before : k - 1 ≤ run = s.last first (k - 1) (shorter uses first k (k - 1) free (omega
+        arith)) (omega arith) in
         omega arith
     | inr none ↦ omega arith
   ]

@@ -1,13 +1,13 @@
 -- Addresses of one page lead to addresses of one flash page.
 use Rattle.std.specs.Prelude.{◌≡◌, ℕ, ◌+◌, ◌*◌, ◌%◌, ◌<◌, ◌≤◌, Option, Some, None}
-use Rattle.std.proofs.Common.{◌∙◌, sym, ap, subst, inl, inr, arith}
+use Rattle.std.proofs.Common.{◌∙◌, sym, ap, inl, inr, arith}
 use Rattle.image_layout.specs.declared.space.Space.{Space}
 use Rattle.image_layout.specs.declared.space.Space.TheVariants.{Data, Code}
 use Rattle.mmu_map.specs.declared.place.Place.{Place}
-use Rattle.mmu_map.specs.Place.{place, place_of, pages_in, address_of}
+use Rattle.mmu_map.specs.Place.{place, place_of, address_of}
 use Rattle.mmu_map.specs.Runs.{flash_page_of}
 use Rattle.mmu_map.specs.Map.{Map, use_in, translated, flash_address}
-use Rattle.mmu_map.proofs.Places.{place_in, LiesIn, lies}
+use Rattle.mmu_map.proofs.Places.{place_in, lies}
 
 -- an address further on in the same page
 still_in : (space : Space) (page at i : ℕ) → address_of space page ≤ at
@@ -23,8 +23,8 @@ further None at i to small is = cc
 further (Some page) at i to small is =
     let e : page * 65536 + at % 65536 ≡ to = some_is (page * 65536 + at % 65536) to is in
     ap (λ (k : ℕ). Some k) (omega arith) where
-  some_is : (a b : ℕ) → Some a ≡ Some b → a ≡ b
-  some_is a b e = cc
+      some_is : (a b : ℕ) → Some a ≡ Some b → a ≡ b
+      some_is a b e = cc
 
 -- an address of no page leads nowhere
 nowhere : (m : Map) (at to : ℕ) → place_of at ≡ None → translated m at ≡ Some to → ⊥

@@ -23,7 +23,8 @@ pub map_exact : (m after : Map) (f n page at : ℕ) (space : Space) → at ≡ a
     → after ≡ after_map m f n (Ok at)
 map_exact m after f n page at space is inside exact =
     exact ∙ sym (ap (λ (k : ℕ). after_map m f n (Ok k)) is
-    ∙ ap (λ (p : Option Place). with_run_at m p (mapped_run f n)) (place_of_address space page inside))
+    ∙ ap (λ (p : Option Place). with_run_at m p (mapped_run f n)) (place_of_address space page
+    inside))
 
 -- the answer of `unmap`, by that of its space
 pub unmap_answer : (m : Map) (at : ℕ) (p : Place) (r : Result (Unit {0}) NotMapped)
@@ -45,7 +46,8 @@ pub unmap_exact : (m after : Map) (at : ℕ) (p : Place) (r : Result (Unit {0}) 
     → after ≡ with_uses m p.space (after_freed (uses_in m p.space) p.page r)
     → after ≡ after_unmap m at r
 unmap_exact m after at p (Ok u) is exact =
-    exact ∙ ap (λ (q : Option Place). with_run_at m q (replicate (run_length (use_in m q)) Free)) (sym is)
+    exact ∙ ap (λ (q : Option Place). with_run_at m q (replicate (run_length (use_in m q)) Free))
+    (sym is)
 unmap_exact m after at p (Err e) is exact = exact ∙ same m p.space where
   same : (m : Map) (space : Space) → with_uses m space (uses_in m space) ≡ m
   same m Data = refl

@@ -153,7 +153,8 @@ module _ (uses run : List PageUse) (first : ℕ) (inside : first + length run �
       → (h : ℕ) × (use_at (with_run uses first run) other ≡ Later h)
   later_inside page m f other from to is after before =
       let fits = run_whole.within (page - first) m f is in
-      let later = run_whole.later (page - first) m f (other - first) is (omega arith) (omega arith) in (
+      let later = run_whole.later (page - first) m f (other - first) is (omega arith) (omega
+      arith) in (
         later.0,
         use_within uses run first inside other (omega arith) (omega (arith, fits)) ∙ later.1,
       )

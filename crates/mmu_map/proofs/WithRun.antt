@@ -25,13 +25,16 @@ module _ (run : ℕ → ℕ → List PageUse) (used : ℕ → PageUse)
       ++ run (f + (i + 1)) (length (set part i (used (f + i))) - (i + 1))
       ≡ run f (length (set part i (used (f + i))))
   run_more part f i inside before =
-      let same : length (set part i (used (f + i))) ≡ length part = length-set part i (used (f + i)) in
+      let same : length (set part i (used (f + i)))
+      ≡ length part = length-set part i (used (f + i)) in
       let more : length part - i ≡ suc (length part - (i + 1)) = omega arith in
       let next : f + i + 1 ≡ f + (i + 1) = omega arith in
-      let left : run (f + i) (length part - i) ≡ used (f + i) ∷ run (f + (i + 1)) (length part - (i + 1)) =
+      let left : run (f + i) (length part - i)
+      ≡ used (f + i) ∷ run (f + (i + 1)) (length part - (i + 1)) =
       ap (λ (k : ℕ). run (f + i) k) more ∙ goes_on (f + i) (length part - (i + 1))
       ∙ ap (λ (k : ℕ). used (f + i) ∷ run k (length part - (i + 1))) next in
-      ap (λ (k : ℕ). take (i + 1) (set part i (used (f + i))) ++ run (f + (i + 1)) (k - (i + 1))) same
+      ap (λ (k : ℕ). take (i + 1) (set part i (used (f + i)))
+      ++ run (f + (i + 1)) (k - (i + 1))) same
       ∙ put_more part (run (f + (i + 1)) (length part - (i + 1))) i (used (f + i)) inside
       ∙ ap (λ (rest : List PageUse). take i part ++ rest) (sym left) ∙ before
       ∙ ap (λ (k : ℕ). run f k) (sym same)
@@ -78,7 +81,8 @@ module _ (uses run : List PageUse) (first : ℕ) (within : first + length run �
   two_length = omega (arith, front_length, length-append (take first uses) run)
 
   -- before the run nothing changed
-  pub use_before : (page : ℕ) → page < first → use_at (with_run uses first run) page ≡ use_at uses page
+  pub use_before : (page : ℕ) → page < first → use_at (with_run uses first run) page
+      ≡ use_at uses page
   use_before page low =
       get_or_append_left (take first uses ++ run) (drop (first + length run) uses) Free page
       (omega (arith, two_length))

@@ -2,8 +2,8 @@
 use Rattle.std.specs.Prelude.{ℕ, ◌+◌, ◌-◌, ◌*◌, ◌&&◌, nat_le, nat_lt, if◌then◌else◌, List, [], ◌∷◌, Option, Some, None}
 use Rattle.mmu_map.specs.Map.{Map, fixed, mapped, freed, IsFreeRun, IsRun}
 
--- a call that was made: these flash pages were fixed at the address, or mapped there, or as many pages
--- from there on were freed
+-- a call that was made: these flash pages were fixed at the address, or mapped there, or as many
+-- pages from there on were freed
 pub data Call : Type 0 where
   FixedAt : ℕ → ℕ → ℕ → Call
   MappedAt : ℕ → ℕ → ℕ → Call
@@ -31,7 +31,8 @@ abbrev pub after_calls : Map → List Call → Map
 after_calls m [] = m
 after_calls m (call ∷ calls) = after_calls (after_call m call) calls
 
--- the answer for an address where it lies in so many pages from another one on, else the other answer
+-- the answer for an address where it lies in so many pages from another one on, else the other
+-- answer
 abbrev pub within_run : ℕ → ℕ → ℕ → Option ℕ → Option ℕ → Option ℕ
 within_run at n a there elsewhere =
     if nat_le at a && nat_lt a (at + n * 65536) then there else elsewhere

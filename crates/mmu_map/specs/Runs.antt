@@ -93,5 +93,6 @@ IsFreed uses first (Err _) = (n : ℕ) → ¬ IsRunAt uses first n
 
 -- the pages once that run is freed
 abbrev pub after_freed : List PageUse → ℕ → Result (Unit {0}) NotMapped → List PageUse
-after_freed uses first (Ok _) = with_run uses first (replicate (run_length (use_at uses first)) Free)
+after_freed uses first (Ok _) =
+    with_run uses first (replicate (run_length (use_at uses first)) Free)
 after_freed uses first (Err _) = uses

@@ -10,8 +10,8 @@ use crate::runs::{NoPages, NotMapped, fix_in, flash_page_in, free_in, map_in};
 use image_layout::Space;
 use std::marker::Model;
 
-/// The pages of both spaces: 64 of the data space from 0x3F40_0000 on, and 51 of the code space from
-/// 0x400D_0000 on.
+/// The pages of both spaces: 64 of the data space from 0x3F40_0000 on, and 51 of the code space
+/// from 0x400D_0000 on.
 #[derive(Drop)]
 pub struct Pages {
     data_uses: [PageUse; DATA_PAGES],
@@ -74,8 +74,8 @@ impl Pages {
         }
     }
 
-    /// Maps the lowest `n` free pages of the space to the flash pages from `flash_page` on. Answers the
-    /// address of the first one.
+    /// Maps the lowest `n` free pages of the space to the flash pages from `flash_page` on. Answers
+    /// the address of the first one.
     #[tactic(auto, using(crate::proofs::Maps::map_answer, crate::proofs::Maps::map_exact))]
     pub fn map(&mut self, flash_page: u32, n: u8, space: Space) -> Result<u32, NoPages>
         requires some { 1 ≤ n }

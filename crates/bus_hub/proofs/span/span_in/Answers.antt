@@ -1,4 +1,4 @@
-use Rattle.std.proofs.Common.{◌≡◌, ◌∙◌, sym, arith, rules}
+use Rattle.std.proofs.Common.{◌∙◌, sym}
 use Rattle.bus_hub.proofs.Spans.{front_beyond, one_page, then_beyond, two_pages}
 use Rattle.bus_hub.proofs.span.span_in.Goals as goal
 

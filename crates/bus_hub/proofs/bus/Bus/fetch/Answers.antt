@@ -15,5 +15,6 @@ returns-clause-stands g c =
     c.fetch_in-answer.new.self c.args.c c.args.k (record_of c.args.self.now c.args.c).regs c.args.at
     c.args.len c.fetch_in-answer.result c.requires.core c.requires.idle
     (subst (λ (r : Record). Fetches n.bytes n.size n.off n.steps n.faults n.setting n.may_refuse
-    n.must_refuse c.args.self.now c.fetch_in-answer.new.self c.args.c c.args.k r.regs c.args.at c.args.len
+    n.must_refuse c.args.self.now c.fetch_in-answer.new.self c.args.c c.args.k r.regs c.args.at
+    c.args.len
     c.fetch_in-answer.result) c.«record».ensures c.fetch_in-answer.ensures.by_answer)

@@ -1,4 +1,4 @@
-use Rattle.std.proofs.Common.{◌≡◌, Bool, true, false, refl, sym, ap, ◌∙◌, rules, arith, Err}
+use Rattle.std.proofs.Common.{◌≡◌, Bool, true, false, refl, ap, ◌∙◌, rules, Err}
 use Rattle.bus_hub.proofs.Spans.{split_reaches}
 use Rattle.bus_hub.proofs.Fetching.{denied_is, fetched_is}
 use Rattle.bus_hub.proofs.bus.Bus.fetch_in.Goals as goal

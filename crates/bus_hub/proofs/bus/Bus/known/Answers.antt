@@ -1,4 +1,5 @@
 use Rattle.bus_hub.proofs.Facts.{part_now, room_now}
+use Rattle.bus_hub.proofs.Knowing.{may_now}
 use Rattle.bus_hub.proofs.bus.Bus.known.Goals as goal
 
 -- by the core's share of the log
@@ -26,3 +27,12 @@ returns-clause-room g c =
     room_now n.bytes n.off n.steps n.faults n.setting n.may_end n.may_tear n.may_refuse
     n.must_refuse k.part k.grants k.moved k.after k.good g.met.K.Duty.own g.met.K.Duty.other
     c.args.self.now
+
+-- by its part
+pub returns-clause-may : goal.returns-clause-may
+returns-clause-may g c =
+    let n = g.D.Nor in
+    let k = g.K.Duty in
+    may_now n.bytes n.size n.off n.steps n.faults n.setting n.may_end n.may_tear n.may_refuse
+    n.must_refuse k.part k.grants k.moved k.after k.good g.met.K.Duty.own g.met.K.Duty.other
+    g.met.D.Nor.sized c.args.self.now
