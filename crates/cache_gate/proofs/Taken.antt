@@ -39,7 +39,9 @@ use Rattle.bus_hub.specs.Log.{run_of, opening}
 use Rattle.bus_hub.specs.Hub.{Hub, Fits, record_of, with_record, noted, core_of, needs, byte_needs, owed}
 use Rattle.bus_hub.specs.Shares.{Begun, own_begun, open_from, begun_of}
 use Rattle.bus_hub.specs.Told.{asked, started, polled, held, number_of, set_to, with_device, running_step, ended_step, after_poll, fetch_items, added, fetched, Fetches, IsFetched, IsDenied}
-use Rattle.cache_gate.specs.Own.{HasRoom, HasRoomIn, OnBase, held_of, behind}
+use Rattle.std.proofs.lemmas.Result.{on_ok_weaker}
+use Rattle.nor_device.specs.Nor.{IsPart}
+use Rattle.cache_gate.specs.Own.{HasRoom, HasRoomIn, OnBase, IsPartOf, held_of, behind}
 use Rattle.cache_gate.specs.Said.{last_of, GivesRoom, HasRead, IsRead, work_by, number_of_open, start_items, begun_items}
 use Rattle.cache_gate.specs.declared.said.Said.TheVariants as said
 
@@ -89,11 +91,11 @@ running_with x y c r is =
     ap (λ (h : Hub _ _). core_of h.running) is ∙ ap core_of (running_kept x c r)
 
 -- what two parts of a share need
-needs-append : (a b : List Did) → needs (a ++ b) ≡ needs a + needs b
+pub needs-append : (a b : List Did) → needs (a ++ b) ≡ needs a + needs b
 needs-append [] b = omega arith
 needs-append (x ∷ a) b = let e = needs-append a b in omega arith
 
-byte_needs-append : (a b : List Did) → byte_needs (a ++ b) ≡ byte_needs a + byte_needs b
+pub byte_needs-append : (a b : List Did) → byte_needs (a ++ b) ≡ byte_needs a + byte_needs b
 byte_needs-append [] b = omega arith
 byte_needs-append (x ∷ a) b = let e = byte_needs-append a b in omega arith
 
@@ -609,3 +611,19 @@ module _ {D S K : Type 0} (stands : Hub D K → Base S K → List Did → List D
           (ap (λ (h : Hub D K). h.running) f.is)
           ∙ ap (λ (l : List Did). behind (held_of s) s.view.registers false l u.view.seen)
           (ap (λ (w : Work Did). w.items) is)
+
+  -- what the device shows of its bytes
+  pub read_part : (s t : Seated (Base S K) Did) (x : Hub D K) (bytes : D → Option (List ℕ))
+      (r : Result (Unit {0}) NorFault) (at n : ℕ) (out : List ℕ) → HasTaken s t
+      → Knows x t.view → length out ≡ n → OnOk r (IsPart (bytes x.dev) at n out)
+      → OnOk r (IfSome s.view.base (λ b. IsPartOf stands (λ h. bytes h.dev) b s.view.core
+      s.view.share at out))
+  read_part s t x bytes r at n out taken known many =
+      on_ok_weaker r (λ part. subst (λ (z : Seated (Base S K) Did). IfSome z.view.base (λ b.
+      IsPartOf stands (λ (h : Hub D K). bytes h.dev) b z.view.core z.view.share at out)) taken.1
+      (by_base x t.view.base t.view.core t.view.share t.view.other_share _ (λ b holds. record {
+        bus = x;
+        theirs = t.view.other_share;
+        stands_by = holds;
+        part = subst (λ (m : ℕ). IsPart (bytes x.dev) at m out) (sym many) part;
+      }) known.stands_by))

@@ -3,6 +3,8 @@ use Rattle.std.specs.Prelude.{◌≡◌, ℕ, ◌+◌, ◌<◌, ◌≤◌, Bool,
 use Rattle.core_state.specs.declared.registers.Record.{Record}
 use Rattle.core_state.specs.declared.registers.Regs.{Regs}
 use Rattle.core_state.specs.Registers.{masked, own_registers, reset}
+use Rattle.core_state.specs.Sharing.{in_order}
+use Rattle.nor_device.specs.Nor.{IsPart}
 use Rattle.atomic_table.specs.Seated.{TableId}
 use Rattle.duo_machine.specs.declared.machine.Phase.{Phase}
 use Rattle.duo_machine.specs.declared.machine.Phase.TheVariants.{Resting, Running, Quiet}
@@ -176,6 +178,16 @@ abbrev pub HasFetched : {B : Type 0} → ℕ → ℕ → ℕ → Result (Unit {0
     → Own B Did → Type 0
 HasFetched k at len (Ok _) o o' = IsFetched k at len o o'
 HasFetched k at len (Err why) o o' = Adds (fetch_items k o.regs at len [] (Err why)) o o'
+
+-- some bus that stands for the base, this share of the core and some share of the other one has these bytes
+-- there
+pub record IsPartOf {H B : Type 0} (stands : H → B → List Did → List Did → Type 0)
+    (bytes : H → Option (List ℕ)) (b : B) (c : ℕ) (share : List Did) (at : ℕ) (out : List ℕ)
+    : Type 0 where
+  pub bus : H
+  pub theirs : List Did
+  pub stands_by : in_order (stands bus b) c share theirs
+  pub part : IsPart (bytes bus) at (length out) out
 
 -- a step that was made whole
 abbrev pub IsMade : {B : Type 0} → ℕ → Step → Own B Did → Own B Did → Type 0

@@ -1,6 +1,6 @@
 //! The states of a core.
 
-ghost use Rattle.std.specs.Prelude.{◌≡◌, ◌≢◌, ◌↔◌, ◌+◌, ◌<◌, ◌≤◌, ◌^◌, [], ◌∷◌, length, Err};
+ghost use Rattle.std.specs.Prelude.{◌≡◌, ◌≢◌, ◌↔◌, ◌+◌, ◌<◌, ◌≤◌, ◌^◌, [], ◌∷◌, length, IfSome, OnOk, Err};
 ghost use Rattle.nor_device.specs.Flash.{end_of, IsInOnePage};
 ghost use Rattle.bus_hub.specs.declared.did.Base.{Base};
 ghost use Rattle.bus_hub.specs.declared.did.Did.{Did};
@@ -10,13 +10,13 @@ ghost use Rattle.bus_hub.specs.declared.reads.FetchNo.TheVariants as refusals;
 ghost use Rattle.bus_hub.specs.Fetch.{IsServed};
 ghost use Rattle.bus_hub.specs.Log.{IsNote};
 ghost use Rattle.bus_hub.specs.Told.{asked};
-ghost use Rattle.cache_gate.specs.Own.{HasRoom, IsInside, MayMake, Keeps, Adds, HasFetched, HasStepped, set_to};
+ghost use Rattle.cache_gate.specs.Own.{HasRoom, IsInside, MayMake, Keeps, Adds, HasFetched, HasStepped, IsPartOf, set_to};
 
 use crate::steps;
 use crate::turns;
 use crate::waits;
 use bus_hub::{Act, Bus, Duty, FetchNo};
-use core_state::Regs;
+use core_state::{Records, Regs};
 use crash_images::Crash;
 use image_layout::Space;
 use mmu_map::{NoPages, NotMapped};
@@ -259,6 +259,9 @@ impl<'w, D: Crash, K: Duty> Quiet<'w, D, K> {
         requires inside { IsInside self.old.base (at + length out.old) }
         ensures adds { Adds (asked result) self.old self.new }
         ensures length { length out.new ≡ length out.old }
+        ensures bytes { OnOk result (IfSome self.old.base (λ b. IsPartOf
+            ⟦<Bus<D, K> as Records>⟧.stands (λ h. D.bytes h.dev) b self.old.core
+            self.old.share at out.new)) }
     {
         turns::read(rt, self.words, &mut self.seat, at, out)
     }

@@ -3,7 +3,8 @@
 ghost use Rattle.std.specs.Prelude.{◌≡◌, [], None, Some, IfOk, IfErr};
 ghost use Rattle.core_state.specs.Registers.{starting, reset, own_registers};
 ghost use Rattle.bus_hub.specs.declared.did.Base.{Base};
-ghost use Rattle.bus_hub.specs.Hub.{record_of};
+ghost use Rattle.bus_hub.specs.Legal.{IsLegal};
+ghost use Rattle.bus_hub.specs.Told.{IsSafe};
 ghost use Rattle.cache_gate.specs.Own.{OnBase, IsFirst, RanBoth, base_of};
 
 use crate::cores::{Ended, RestCore};
@@ -75,7 +76,12 @@ impl<D: Crash, K: Duty> Gates<D, K> {
         ensures registers { (own_registers result.left ≡ first.regs)
             × (own_registers result.right ≡ second.regs) }
         ensures run { RanBoth first second }
+        ensures legal { OnBase first.base (λ _. IsLegal result.journal.entries) }
+        ensures leaves { IsSafe ⟦<Bus<D, K> as Records>⟧.stands D.may_leave K.good result }
     {
-        self.words.close(first.seat, second.seat)
+        let bus = self.words.close(first.seat, second.seat);
+        bus.legal();
+        bus.safe();
+        bus
     }
 }

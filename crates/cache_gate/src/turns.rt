@@ -1,6 +1,6 @@
 //! One turn each: the bus is taken, one call of it is made, and it goes back.
 
-ghost use Rattle.std.specs.Prelude.{◌≡◌, ◌≢◌, ◌↔◌, ◌+◌, ◌<◌, ◌≤◌, ◌^◌, true, false, [], ◌∷◌, length, None, IsNone, IsSome, IfSome, Err};
+ghost use Rattle.std.specs.Prelude.{◌≡◌, ◌≢◌, ◌↔◌, ◌+◌, ◌<◌, ◌≤◌, ◌^◌, true, false, [], ◌∷◌, length, None, IsNone, IsSome, IfSome, OnOk, Err};
 ghost use Rattle.core_state.specs.Registers.{saved_and_masked, restored};
 ghost use Rattle.duo_machine.specs.declared.machine.Phase.TheVariants.{Running, Quiet};
 ghost use Rattle.duo_machine.specs.Table.{IsAwake};
@@ -14,7 +14,7 @@ ghost use Rattle.bus_hub.specs.Fetch.{IsServed};
 ghost use Rattle.bus_hub.specs.Log.{IsNote};
 ghost use Rattle.bus_hub.specs.Told.{asked, started};
 ghost use Rattle.cache_gate.specs.Works.{Worked, work_in, events_in};
-ghost use Rattle.cache_gate.specs.Own.{held_of, behind, kept, HasRoom, IsInside, MayMake};
+ghost use Rattle.cache_gate.specs.Own.{held_of, behind, kept, HasRoom, IsInside, MayMake, IsPartOf};
 ghost use Rattle.cache_gate.specs.Said.{HasPolled, HasRead, GivesRoom, is_begun, number_of_open, fetch_event, begin_event, done_event};
 ghost use Rattle.bus_hub.specs.Hub.{Fits};
 ghost use Rattle.bus_hub.specs.Shares.{open_from, own_begun, made, moved_by};
@@ -267,6 +267,9 @@ pub(crate) fn read<R: Wait, D: Crash, K: Duty>(
     ensures exact { held_of seat.new ≡ behind (held_of seat.old) seat.old.view.registers false (asked result)
         seat.new.view.seen }
     ensures length { length out.new ≡ length out.old }
+    ensures bytes { OnOk result (IfSome seat.old.view.base (λ b. IsPartOf
+        ⟦<Bus<D, K> as Records>⟧.stands (λ h. D.bytes h.dev) b seat.old.view.core
+        seat.old.view.share at out.new)) }
     ensures works { Worked (events_in (asked result)) seat.old.view seat.new.view }
 {
     let mut bus = take(rt, words, seat);

@@ -9,4 +9,4 @@ returns-clause-run g c =
     subst (λ (z : _ × _). RanBoth z.0 z.1) (λ k. (c.first.view_is k, c.second.view_is k))
     (ran_both c.first.inside.seat c.second.inside.seat c.first.invariant.true_to
     c.second.invariant.true_to (ap (λ (o : _). o.core) c.first.view_is ∙ c.requires.first.1)
-    (ap (λ (o : _). o.core) c.second.view_is ∙ c.requires.second.1) c.close.ensures.run)
+    (ap (λ (o : _). o.core) c.second.view_is ∙ c.requires.second.1) c.close-bus.ensures.run)
