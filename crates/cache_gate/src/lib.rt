@@ -5,6 +5,8 @@ mod cores;
 mod gates;
 mod said;
 mod steps;
+#[cfg(test)]
+mod tests;
 mod turns;
 mod waits;
 
