@@ -327,6 +327,7 @@ module _ {D S K : Type 0} (stands : Hub D K → Base S K → List Did → List D
             none_asked : (r : Result (Unit {0}) NorFault) → needs (asked r) ≡ 0
             none_asked (Ok _) = refl
             none_asked (Err why) = refl
+
             no_byte_asked : (r : Result (Unit {0}) NorFault) → byte_needs (asked r) ≡ 0
             no_byte_asked (Ok _) = refl
             no_byte_asked (Err why) = refl
@@ -335,205 +336,205 @@ module _ {D S K : Type 0} (stands : Hub D K → Base S K → List Did → List D
         module _ (bytes : D → Option (List ℕ)) (size : D → ℕ) (off : D → Bool)
             (steps faults : D → ℕ) (setting : D → S) (may_refuse : S → ℕ → NorFault → Type 0)
             (must_refuse : S → ℕ → Type 0) (k at len : ℕ) (r0 : Record) (own : r0 ≡ t.view.registers)
-            where
-          abbrev pub Answered : Result (Unit {0}) FetchNo → Type 0
-          Answered r =
-              Fetches bytes size off steps faults setting may_refuse must_refuse x y c k
-              (record_of x c).regs at len r
+          where
+            abbrev pub Answered : Result (Unit {0}) FetchNo → Type 0
+            Answered r =
+                Fetches bytes size off steps faults setting may_refuse must_refuse x y c k
+                (record_of x c).regs at len r
 
-          regs_are : (record_of x c).regs ≡ r0.regs
-          regs_are = ap (λ (q : Record). q.regs) (own_view ∙ sym own)
+            regs_are : (record_of x c).regs ≡ r0.regs
+            regs_are = ap (λ (q : Record). q.regs) (own_view ∙ sym own)
 
-          read_last : (f : IsFetched bytes size off steps faults setting may_refuse must_refuse x y c k
-              (record_of x c).regs at len) → last_of len y.journal.bytes ≡ f.data_bytes
-          read_last f =
-              ap (λ (h : Hub D K). last_of len h.journal.bytes) f.is
-              ∙ last_added x.journal.bytes f.data_bytes len f.many
+            read_last : (f : IsFetched bytes size off steps faults setting may_refuse must_refuse x y c k
+                (record_of x c).regs at len) → last_of len y.journal.bytes ≡ f.data_bytes
+            read_last f =
+                ap (λ (h : Hub D K). last_of len h.journal.bytes) f.is
+                ∙ last_added x.journal.bytes f.data_bytes len f.many
 
-          read_added : (f : IsFetched bytes size off steps faults setting may_refuse must_refuse x y c k
-              (record_of x c).regs at len) → added x.journal y.journal ≡ f.data_bytes
-          read_added f =
-              ap (λ (h : Hub D K). added x.journal h.journal) f.is
-              ∙ drop-append_seam x.journal.bytes f.data_bytes
+            read_added : (f : IsFetched bytes size off steps faults setting may_refuse must_refuse x y c k
+                (record_of x c).regs at len) → added x.journal y.journal ≡ f.data_bytes
+            read_added f =
+                ap (λ (h : Hub D K). added x.journal h.journal) f.is
+                ∙ drop-append_seam x.journal.bytes f.data_bytes
 
-          -- a core fetches
-          pub fetches : (r : Result (Unit {0}) FetchNo) → s.view.phase ≡ Running → Answered r
-              → GoesOn stands Fits x y c
-              (fetch_items k (record_of x c).regs at len (added x.journal y.journal) r)
-              → HasRoom s.view.base s.view.core s.view.share 1 len
-              → MayGive t.view y (work_by bytes (said.Fetched k r0.regs at len r) y)
-          fetches (Ok u) runs f on room =
-              let last = read_last f in
-              gives record_of (λ b. core_of b.running) stands Fits x y t.view
-              (work_by bytes (said.Fetched k r0.regs at len (Ok u)) y) c core known
-              (same_records x y (other t.view.core) (ap (λ (h : Hub D K). h.left) f.is)
-              (ap (λ (h : Hub D K). h.right) f.is)) (
-                same_phase ∙ runs,
-                subst (λ (z : ℕ × ℕ). IsBitSet z.0 z.1)
-                    (λ i. (
-                      (ap (λ (q : Record). q.regs.mask) own_view) i,
-                      same_bit (space_at at) i,
-                    )) f.served,
-                same_records x y t.view.core (ap (λ (h : Hub D K). h.left) f.is)
-                    (ap (λ (h : Hub D K). h.right) f.is) ∙ known.own,
-                ap (λ (h : Hub D K). core_of h.running) f.is ∙ known.running,
-              )
-              (subst (λ (z : Regs × List ℕ). GoesOn stands Fits x y c (Fetched k z.0 at z.1 ∷ []))
-              (λ i. (regs_are i, (read_added f ∙ sym last) i)) on)
-              (fits_room t.view.base t.view.core t.view.share
-              (Fetched k r0.regs at (last_of len y.journal.bytes) ∷ []) 1 len (room_kept 1 len room)
-              (omega arith) (let e = ap length last in let m = f.many in omega arith))
-          fetches (Err refusals.Unmapped) runs f on room =
-              keeps_cores (Missed at len ∷ []) (ap (λ (h : Hub D K). h.left) f.1)
-              (ap (λ (h : Hub D K). h.right) f.1) (ap (λ (h : Hub D K). h.running) f.1) on
-              (fits_same t.view.base t.view.core t.view.share (Missed at len ∷ []) fit refl refl)
-          fetches (Err refusals.Masked) runs f on room =
-              keeps_cores (Masked at len ∷ []) (ap (λ (h : Hub D K). h.left) f.2)
-              (ap (λ (h : Hub D K). h.right) f.2) (ap (λ (h : Hub D K). h.running) f.2) on
-              (fits_same t.view.base t.view.core t.view.share (Masked at len ∷ []) fit refl refl)
-          fetches (Err refusals.Off) runs f on room =
-              keeps_cores (Denied whys.Off ∷ []) (ap (λ (h : Hub D K). h.left) f.is)
-              (ap (λ (h : Hub D K). h.right) f.is) (ap (λ (h : Hub D K). h.running) f.is) on
-              (fits_same t.view.base t.view.core t.view.share (Denied whys.Off ∷ []) fit refl refl)
-          fetches (Err refusals.Failed) runs f on room =
-              keeps_cores (Denied whys.Failed ∷ []) (ap (λ (h : Hub D K). h.left) f.is)
-              (ap (λ (h : Hub D K). h.right) f.is) (ap (λ (h : Hub D K). h.running) f.is) on
-              (fits_same t.view.base t.view.core t.view.share (Denied whys.Failed ∷ []) fit refl refl)
+            -- a core fetches
+            pub fetches : (r : Result (Unit {0}) FetchNo) → s.view.phase ≡ Running → Answered r
+                → GoesOn stands Fits x y c
+                (fetch_items k (record_of x c).regs at len (added x.journal y.journal) r)
+                → HasRoom s.view.base s.view.core s.view.share 1 len
+                → MayGive t.view y (work_by bytes (said.Fetched k r0.regs at len r) y)
+            fetches (Ok u) runs f on room =
+                let last = read_last f in
+                gives record_of (λ b. core_of b.running) stands Fits x y t.view
+                (work_by bytes (said.Fetched k r0.regs at len (Ok u)) y) c core known
+                (same_records x y (other t.view.core) (ap (λ (h : Hub D K). h.left) f.is)
+                (ap (λ (h : Hub D K). h.right) f.is)) (
+                  same_phase ∙ runs,
+                  subst (λ (z : ℕ × ℕ). IsBitSet z.0 z.1)
+                      (λ i. (
+                        (ap (λ (q : Record). q.regs.mask) own_view) i,
+                        same_bit (space_at at) i,
+                      )) f.served,
+                  same_records x y t.view.core (ap (λ (h : Hub D K). h.left) f.is)
+                      (ap (λ (h : Hub D K). h.right) f.is) ∙ known.own,
+                  ap (λ (h : Hub D K). core_of h.running) f.is ∙ known.running,
+                )
+                (subst (λ (z : Regs × List ℕ). GoesOn stands Fits x y c (Fetched k z.0 at z.1 ∷ []))
+                (λ i. (regs_are i, (read_added f ∙ sym last) i)) on)
+                (fits_room t.view.base t.view.core t.view.share
+                (Fetched k r0.regs at (last_of len y.journal.bytes) ∷ []) 1 len (room_kept 1 len room)
+                (omega arith) (let e = ap length last in let m = f.many in omega arith))
+            fetches (Err refusals.Unmapped) runs f on room =
+                keeps_cores (Missed at len ∷ []) (ap (λ (h : Hub D K). h.left) f.1)
+                (ap (λ (h : Hub D K). h.right) f.1) (ap (λ (h : Hub D K). h.running) f.1) on
+                (fits_same t.view.base t.view.core t.view.share (Missed at len ∷ []) fit refl refl)
+            fetches (Err refusals.Masked) runs f on room =
+                keeps_cores (Masked at len ∷ []) (ap (λ (h : Hub D K). h.left) f.2)
+                (ap (λ (h : Hub D K). h.right) f.2) (ap (λ (h : Hub D K). h.running) f.2) on
+                (fits_same t.view.base t.view.core t.view.share (Masked at len ∷ []) fit refl refl)
+            fetches (Err refusals.Off) runs f on room =
+                keeps_cores (Denied whys.Off ∷ []) (ap (λ (h : Hub D K). h.left) f.is)
+                (ap (λ (h : Hub D K). h.right) f.is) (ap (λ (h : Hub D K). h.running) f.is) on
+                (fits_same t.view.base t.view.core t.view.share (Denied whys.Off ∷ []) fit refl refl)
+            fetches (Err refusals.Failed) runs f on room =
+                keeps_cores (Denied whys.Failed ∷ []) (ap (λ (h : Hub D K). h.left) f.is)
+                (ap (λ (h : Hub D K). h.right) f.is) (ap (λ (h : Hub D K). h.running) f.is) on
+                (fits_same t.view.base t.view.core t.view.share (Denied whys.Failed ∷ []) fit refl refl)
 
         module _ (bytes : D → Option (List ℕ)) (k : ℕ) (r0 : Record) (own : r0 ≡ t.view.registers)
-            where
-          same_regs : (record_of x c).regs ≡ r0.regs
-          same_regs = ap (λ (q : Record). q.regs) (own_view ∙ sym own)
+          where
+            same_regs : (record_of x c).regs ≡ r0.regs
+            same_regs = ap (λ (q : Record). q.regs) (own_view ∙ sym own)
 
-          -- a quiet core begins a step
-          pub begins : (step : Step) (r : Result (Unit {0}) NorFault) → s.view.phase ≡ Quiet
-              → s.view.stepping ≡ false → OnOk r (y ≡ running_step x c k step y.dev)
-              → OnErr r (y ≡ with_device x y.dev)
-              → GoesOn stands Fits x y c (started k (record_of x c).regs step r)
-              → HasRoom s.view.base s.view.core s.view.share 2 0
-              → MayGive t.view y (work_by bytes (said.Starting r0.regs r) y)
-          begins step (Ok u) quiet rests is not_is on room =
-              let runs : y.running ≡ Some (run_of c k step) = ap (λ (h : Hub D K). h.running) is in
-              let items : start_items r0.regs y.running (Ok u) ≡ Opened k r0.regs step ∷ [] =
-              ap (λ (o : Option Going). begun_items r0.regs o) runs in
-              let idle : t.view.running ≡ None =
-              known.quiet_idle (same_phase ∙ quiet)
-              (ap (λ (z : Seated (Base S K) Did). z.view.stepping) taken.1 ∙ rests) in
-              gives record_of (λ b. core_of b.running) stands Fits x y t.view
-              (work_by bytes (said.Starting r0.regs (Ok u)) y) c core known
-              (same_records x y (other t.view.core) (ap (λ (h : Hub D K). h.left) is)
-              (ap (λ (h : Hub D K). h.right) is)) (
-                same_phase ∙ quiet,
-                (λ e. clash t.view.running t.view.core e idle),
-                same_records x y t.view.core (ap (λ (h : Hub D K). h.left) is)
-                    (ap (λ (h : Hub D K). h.right) is) ∙ known.own,
-                ap core_of runs ∙ ap (λ (n : ℕ). Some n) core,
-              )
-              (subst (λ (l : List Did). GoesOn stands Fits x y c l)
-              (ap (λ (q : Regs). Opened k q step ∷ []) same_regs ∙ sym items) on)
-              (subst (λ (l : List Did). (b : Base S K) → t.view.base ≡ Some b
-              → Fits b t.view.core (t.view.share ++ l)) (sym items)
-              (fits_room t.view.base t.view.core t.view.share (Opened k r0.regs step ∷ []) 2 0
-              (room_kept 2 0 room) (omega arith) (omega arith)))
-            where
-              clash : (o : Option ℕ) (n : ℕ) → o ≡ Some n → o ≡ None → ⊥
-              clash o n e f = cc
-          begins step (Err why) quiet rests not_is is on room =
-              keeps_cores (Denied why ∷ []) (ap (λ (h : Hub D K). h.left) is)
-              (ap (λ (h : Hub D K). h.right) is) (ap (λ (h : Hub D K). h.running) is) on
-              (fits_same t.view.base t.view.core t.view.share (Denied why ∷ []) fit refl refl)
+            -- a quiet core begins a step
+            pub begins : (step : Step) (r : Result (Unit {0}) NorFault) → s.view.phase ≡ Quiet
+                → s.view.stepping ≡ false → OnOk r (y ≡ running_step x c k step y.dev)
+                → OnErr r (y ≡ with_device x y.dev)
+                → GoesOn stands Fits x y c (started k (record_of x c).regs step r)
+                → HasRoom s.view.base s.view.core s.view.share 2 0
+                → MayGive t.view y (work_by bytes (said.Starting r0.regs r) y)
+            begins step (Ok u) quiet rests is not_is on room =
+                let runs : y.running ≡ Some (run_of c k step) = ap (λ (h : Hub D K). h.running) is in
+                let items : start_items r0.regs y.running (Ok u) ≡ Opened k r0.regs step ∷ [] =
+                ap (λ (o : Option Going). begun_items r0.regs o) runs in
+                let idle : t.view.running ≡ None =
+                known.quiet_idle (same_phase ∙ quiet)
+                (ap (λ (z : Seated (Base S K) Did). z.view.stepping) taken.1 ∙ rests) in
+                gives record_of (λ b. core_of b.running) stands Fits x y t.view
+                (work_by bytes (said.Starting r0.regs (Ok u)) y) c core known
+                (same_records x y (other t.view.core) (ap (λ (h : Hub D K). h.left) is)
+                (ap (λ (h : Hub D K). h.right) is)) (
+                  same_phase ∙ quiet,
+                  (λ e. clash t.view.running t.view.core e idle),
+                  same_records x y t.view.core (ap (λ (h : Hub D K). h.left) is)
+                      (ap (λ (h : Hub D K). h.right) is) ∙ known.own,
+                  ap core_of runs ∙ ap (λ (n : ℕ). Some n) core,
+                )
+                (subst (λ (l : List Did). GoesOn stands Fits x y c l)
+                (ap (λ (q : Regs). Opened k q step ∷ []) same_regs ∙ sym items) on)
+                (subst (λ (l : List Did). (b : Base S K) → t.view.base ≡ Some b
+                → Fits b t.view.core (t.view.share ++ l)) (sym items)
+                (fits_room t.view.base t.view.core t.view.share (Opened k r0.regs step ∷ []) 2 0
+                (room_kept 2 0 room) (omega arith) (omega arith)))
+              where
+                clash : (o : Option ℕ) (n : ℕ) → o ≡ Some n → o ≡ None → ⊥
+                clash o n e f = cc
+            begins step (Err why) quiet rests not_is is on room =
+                keeps_cores (Denied why ∷ []) (ap (λ (h : Hub D K). h.left) is)
+                (ap (λ (h : Hub D K). h.right) is) (ap (λ (h : Hub D K). h.running) is) on
+                (fits_same t.view.base t.view.core t.view.share (Denied why ∷ []) fit refl refl)
 
-          -- it polls the step
-          pub polls : (after : K → ℕ → Step → K) (run : Going) (r : Result Ready NorFault)
-              → s.view.phase ≡ Quiet → x.running ≡ Some run → t.view.running ≡ Some t.view.core
-              → run.k ≡ k
-              → y ≡ after_poll after x run (record_of x c).regs r y.dev
-              → GoesOn stands Fits x y c (polled run.k (record_of x c).regs (held (bytes y.dev)) r)
-              → MayGive t.view y (work_by bytes (said.Polled k r0.regs r) y)
-          polls after run r quiet runs mine number is on = by_answer r is moved
-            where
-              moved : GoesOn stands Fits x y c (polled k r0.regs (held (bytes y.dev)) r)
-              moved = subst (λ (z : ℕ × Regs). GoesOn stands Fits x y c
-                  (polled z.0 z.1 (held (bytes y.dev)) r)) (λ i. (number i, same_regs i)) on
+            -- it polls the step
+            pub polls : (after : K → ℕ → Step → K) (run : Going) (r : Result Ready NorFault)
+                → s.view.phase ≡ Quiet → x.running ≡ Some run → t.view.running ≡ Some t.view.core
+                → run.k ≡ k
+                → y ≡ after_poll after x run (record_of x c).regs r y.dev
+                → GoesOn stands Fits x y c (polled run.k (record_of x c).regs (held (bytes y.dev)) r)
+                → MayGive t.view y (work_by bytes (said.Polled k r0.regs r) y)
+            polls after run r quiet runs mine number is on = by_answer r is moved
+              where
+                moved : GoesOn stands Fits x y c (polled k r0.regs (held (bytes y.dev)) r)
+                moved = subst (λ (z : ℕ × Regs). GoesOn stands Fits x y c
+                    (polled z.0 z.1 (held (bytes y.dev)) r)) (λ i. (number i, same_regs i)) on
 
-              by_answer : (r : Result Ready NorFault)
-                  → y ≡ after_poll after x run (record_of x c).regs r y.dev
-                  → GoesOn stands Fits x y c (polled k r0.regs (held (bytes y.dev)) r)
-                  → MayGive t.view y (work_by bytes (said.Polled k r0.regs r) y)
-              by_answer (Ok answers.Busy) is on =
-                  keeps_cores [] (ap (λ (h : Hub D K). h.left) is)
-                  (ap (λ (h : Hub D K). h.right) is) (ap (λ (h : Hub D K). h.running) is) on
-                  (fits_same t.view.base t.view.core t.view.share [] fit refl refl)
-              by_answer (Ok answers.Ready) is on =
-                  gives record_of (λ b. core_of b.running) stands Fits x y t.view
-                  (work_by bytes (said.Polled k r0.regs (Ok answers.Ready)) y) c core known
-                  (same_records x y (other t.view.core) (ap (λ (h : Hub D K). h.left) is)
-                  (ap (λ (h : Hub D K). h.right) is)) (
-                    same_phase ∙ quiet,
-                    mine,
-                    same_records x y t.view.core (ap (λ (h : Hub D K). h.left) is)
-                        (ap (λ (h : Hub D K). h.right) is) ∙ known.own,
-                    ap (λ (h : Hub D K). core_of h.running) is,
-                  )
-                  on (fits_same t.view.base t.view.core t.view.share (Closed k r0.regs ∷ []) fit refl refl)
-              by_answer (Err why) is on =
-                  gives record_of (λ b. core_of b.running) stands Fits x y t.view
-                  (work_by bytes (said.Polled k r0.regs (Err why)) y) c core known
-                  (same_records x y (other t.view.core) (ap (λ (h : Hub D K). h.left) is)
-                  (ap (λ (h : Hub D K). h.right) is)) (
-                    same_phase ∙ quiet,
-                    mine,
-                    same_records x y t.view.core (ap (λ (h : Hub D K). h.left) is)
-                        (ap (λ (h : Hub D K). h.right) is) ∙ known.own,
-                    ap (λ (h : Hub D K). core_of h.running) is,
-                  )
-                  on (fits_same t.view.base t.view.core t.view.share
-                  (Broken k r0.regs why (held (bytes y.dev)) ∷ []) fit refl refl)
+                by_answer : (r : Result Ready NorFault)
+                    → y ≡ after_poll after x run (record_of x c).regs r y.dev
+                    → GoesOn stands Fits x y c (polled k r0.regs (held (bytes y.dev)) r)
+                    → MayGive t.view y (work_by bytes (said.Polled k r0.regs r) y)
+                by_answer (Ok answers.Busy) is on =
+                    keeps_cores [] (ap (λ (h : Hub D K). h.left) is)
+                    (ap (λ (h : Hub D K). h.right) is) (ap (λ (h : Hub D K). h.running) is) on
+                    (fits_same t.view.base t.view.core t.view.share [] fit refl refl)
+                by_answer (Ok answers.Ready) is on =
+                    gives record_of (λ b. core_of b.running) stands Fits x y t.view
+                    (work_by bytes (said.Polled k r0.regs (Ok answers.Ready)) y) c core known
+                    (same_records x y (other t.view.core) (ap (λ (h : Hub D K). h.left) is)
+                    (ap (λ (h : Hub D K). h.right) is)) (
+                      same_phase ∙ quiet,
+                      mine,
+                      same_records x y t.view.core (ap (λ (h : Hub D K). h.left) is)
+                          (ap (λ (h : Hub D K). h.right) is) ∙ known.own,
+                      ap (λ (h : Hub D K). core_of h.running) is,
+                    )
+                    on (fits_same t.view.base t.view.core t.view.share (Closed k r0.regs ∷ []) fit refl refl)
+                by_answer (Err why) is on =
+                    gives record_of (λ b. core_of b.running) stands Fits x y t.view
+                    (work_by bytes (said.Polled k r0.regs (Err why)) y) c core known
+                    (same_records x y (other t.view.core) (ap (λ (h : Hub D K). h.left) is)
+                    (ap (λ (h : Hub D K). h.right) is)) (
+                      same_phase ∙ quiet,
+                      mine,
+                      same_records x y t.view.core (ap (λ (h : Hub D K). h.left) is)
+                          (ap (λ (h : Hub D K). h.right) is) ∙ known.own,
+                      ap (λ (h : Hub D K). core_of h.running) is,
+                    )
+                    on (fits_same t.view.base t.view.core t.view.share
+                    (Broken k r0.regs why (held (bytes y.dev)) ∷ []) fit refl refl)
 
-          -- the same by what is known of the running step
-          pub polls_own : (after : K → ℕ → Step → K) (r : Result Ready NorFault)
-              → s.view.phase ≡ Quiet → s.view.stepping ≡ true → IsSome s.view.base
-              → number_of_open (open_from None s.view.share) ≡ k
-              → IfSome t.view.base (λ _. own_begun t.view.core x.running ≡ open_from None t.view.share)
-              → IfSome x.running (λ run. y ≡ after_poll after x run (record_of x c).regs r y.dev)
-              → GoesOn stands Fits x y c
-              (polled (number_of x.running) (record_of x c).regs (held (bytes y.dev)) r)
-              → MayGive t.view y (work_by bytes (said.Polled k r0.regs r) y)
-          polls_own after r quiet steps some number open_is is on =
-              by_running x.running refl (by_base_here t.view.base refl open_is) is on
-            where
-              stepping : t.view.stepping ≡ true
-              stepping = ap (λ (z : Seated (Base S K) Did). z.view.stepping) taken.1 ∙ steps
+            -- the same by what is known of the running step
+            pub polls_own : (after : K → ℕ → Step → K) (r : Result Ready NorFault)
+                → s.view.phase ≡ Quiet → s.view.stepping ≡ true → IsSome s.view.base
+                → number_of_open (open_from None s.view.share) ≡ k
+                → IfSome t.view.base (λ _. own_begun t.view.core x.running ≡ open_from None t.view.share)
+                → IfSome x.running (λ run. y ≡ after_poll after x run (record_of x c).regs r y.dev)
+                → GoesOn stands Fits x y c
+                (polled (number_of x.running) (record_of x c).regs (held (bytes y.dev)) r)
+                → MayGive t.view y (work_by bytes (said.Polled k r0.regs r) y)
+            polls_own after r quiet steps some number open_is is on =
+                by_running x.running refl (by_base_here t.view.base refl open_is) is on
+              where
+                stepping : t.view.stepping ≡ true
+                stepping = ap (λ (z : Seated (Base S K) Did). z.view.stepping) taken.1 ∙ steps
 
-              mine : t.view.running ≡ Some t.view.core
-              mine = known.own_step.1 stepping
+                mine : t.view.running ≡ Some t.view.core
+                mine = known.own_step.1 stepping
 
-              by_base_here : (o : Option (Base S K)) → t.view.base ≡ o
-                  → IfSome o (λ _. own_begun t.view.core x.running ≡ open_from None t.view.share)
-                  → own_begun t.view.core x.running ≡ open_from None t.view.share
-              by_base_here None e h =
-                  let none : IsSome {T = Base S K} None = subst IsSome (sym (ap (λ (z : Seated (Base S K) Did). z.view.base) taken.1) ∙ e) some in
-                  absurd (cc none)
-              by_base_here (Some b) e h = h
+                by_base_here : (o : Option (Base S K)) → t.view.base ≡ o
+                    → IfSome o (λ _. own_begun t.view.core x.running ≡ open_from None t.view.share)
+                    → own_begun t.view.core x.running ≡ open_from None t.view.share
+                by_base_here None e h =
+                    let none : IsSome {T = Base S K} None = subst IsSome (sym (ap (λ (z : Seated (Base S K) Did). z.view.base) taken.1) ∙ e) some in
+                    absurd (cc none)
+                by_base_here (Some b) e h = h
 
-              by_running : (o : Option Going) → x.running ≡ o
-                  → own_begun t.view.core x.running ≡ open_from None t.view.share
-                  → IfSome o (λ run. y ≡ after_poll after x run (record_of x c).regs r y.dev)
-                  → GoesOn stands Fits x y c
-                  (polled (number_of o) (record_of x c).regs (held (bytes y.dev)) r)
-                  → MayGive t.view y (work_by bytes (said.Polled k r0.regs r) y)
-              by_running None e known_step is on =
-                  let f : core_of x.running ≡ Some t.view.core = known.running ∙ mine in
-                  let g : core_of x.running ≡ None = ap core_of e in
-                  absurd (cc (f, g))
-              by_running (Some run) e known_step is on =
-                  let f : core_of x.running ≡ Some t.view.core = known.running ∙ mine in
-                  polls after run r quiet e mine
-                  (ap number_of (sym e)
-                  ∙ (sym (number_by x.running t.view.core f)
-                  ∙ (ap number_of_open known_step
-                  ∙ (ap (λ (z : Seated (Base S K) Did). number_of_open (open_from None z.view.share)) taken.1
-                  ∙ number)))) is on
+                by_running : (o : Option Going) → x.running ≡ o
+                    → own_begun t.view.core x.running ≡ open_from None t.view.share
+                    → IfSome o (λ run. y ≡ after_poll after x run (record_of x c).regs r y.dev)
+                    → GoesOn stands Fits x y c
+                    (polled (number_of o) (record_of x c).regs (held (bytes y.dev)) r)
+                    → MayGive t.view y (work_by bytes (said.Polled k r0.regs r) y)
+                by_running None e known_step is on =
+                    let f : core_of x.running ≡ Some t.view.core = known.running ∙ mine in
+                    let g : core_of x.running ≡ None = ap core_of e in
+                    absurd (cc (f, g))
+                by_running (Some run) e known_step is on =
+                    let f : core_of x.running ≡ Some t.view.core = known.running ∙ mine in
+                    polls after run r quiet e mine
+                    (ap number_of (sym e)
+                    ∙ (sym (number_by x.running t.view.core f)
+                    ∙ (ap number_of_open known_step
+                    ∙ (ap (λ (z : Seated (Base S K) Did). number_of_open (open_from None z.view.share)) taken.1
+                    ∙ number)))) is on
 
   module _ (s t u : Seated (Base S K) Did) (x y : Hub D K) (work : Work Did) (taken : HasTaken s t)
       (given : HasGiven record_of (λ b. core_of b.running) y work t u) where
@@ -561,56 +562,56 @@ module _ {D S K : Type 0} (stands : Hub D K → Base S K → List Did → List D
         (bytes : D → Option (List ℕ)) (size : D → ℕ) (off : D → Bool) (steps faults : D → ℕ)
         (setting : D → S) (may_refuse : S → ℕ → NorFault → Type 0) (must_refuse : S → ℕ → Type 0)
         (k at len : ℕ) (r0 : Record) (own : r0 ≡ t.view.registers) (runs : s.view.phase ≡ Running)
-        where
-      same_own : r0.regs ≡ s.view.registers.regs
-      same_own = ap (λ (q : Record). q.regs) (own ∙ same_registers s t x taken known)
+      where
+        same_own : r0.regs ≡ s.view.registers.regs
+        same_own = ap (λ (q : Record). q.regs) (own ∙ same_registers s t x taken known)
 
-      back_as : y.left ≡ x.left → y.right ≡ x.right → y.running ≡ x.running
-          → held_of u ≡ behind (held_of s) s.view.registers false work.items u.view.seen
-      back_as left right run =
-          held_after s.view.registers false
-          (same_records x y t.view.core left right
-          ∙ (known.own ∙ same_registers s t x taken known))
-          (ap (λ (o : Option Going). is_step_of t.view.core (core_of o))
-          (run ∙ idle_running s t x taken known runs))
+        back_as : y.left ≡ x.left → y.right ≡ x.right → y.running ≡ x.running
+            → held_of u ≡ behind (held_of s) s.view.registers false work.items u.view.seen
+        back_as left right run =
+            held_after s.view.registers false
+            (same_records x y t.view.core left right
+            ∙ (known.own ∙ same_registers s t x taken known))
+            (ap (λ (o : Option Going). is_step_of t.view.core (core_of o))
+            (run ∙ idle_running s t x taken known runs))
 
-      pub fetch_back : (r : Result (Unit {0}) FetchNo)
-          → Fetches bytes size off steps faults setting may_refuse must_refuse x y c k
-          (record_of x c).regs at len r
-          → work ≡ work_by bytes (said.Fetched k r0.regs at len r) y
-          → HasRead k at len r (held_of s) (held_of u)
-      fetch_back (Ok a) f is =
-          let e = back_as (ap (λ (h : Hub D K). h.left) f.is) (ap (λ (h : Hub D K). h.right) f.is)
-          (ap (λ (h : Hub D K). h.running) f.is) in
-          let last = read_last s t x taken known c core y small fit bytes size off steps faults setting
-          may_refuse must_refuse k at len r0 own f in
-          record {
-            bytes = last_of len y.journal.bytes;
-            many = ap length last ∙ f.many;
-            is = e ∙ ap (λ (l : List Did). behind (held_of s) s.view.registers false l u.view.seen)
-                (ap (λ (w : Work Did). w.items) is ∙ ap (λ (q : Regs).
-                Fetched k q at (last_of len y.journal.bytes) ∷ []) same_own);
-          }
-      fetch_back (Err refusals.Unmapped) f is =
-          back_as (ap (λ (h : Hub D K). h.left) f.1) (ap (λ (h : Hub D K). h.right) f.1)
-          (ap (λ (h : Hub D K). h.running) f.1)
-          ∙ ap (λ (l : List Did). behind (held_of s) s.view.registers false l u.view.seen)
-          (ap (λ (w : Work Did). w.items) is)
-      fetch_back (Err refusals.Masked) f is =
-          back_as (ap (λ (h : Hub D K). h.left) f.2) (ap (λ (h : Hub D K). h.right) f.2)
-          (ap (λ (h : Hub D K). h.running) f.2)
-          ∙ ap (λ (l : List Did). behind (held_of s) s.view.registers false l u.view.seen)
-          (ap (λ (w : Work Did). w.items) is)
-      fetch_back (Err refusals.Off) f is =
-          back_as (ap (λ (h : Hub D K). h.left) f.is) (ap (λ (h : Hub D K). h.right) f.is)
-          (ap (λ (h : Hub D K). h.running) f.is)
-          ∙ ap (λ (l : List Did). behind (held_of s) s.view.registers false l u.view.seen)
-          (ap (λ (w : Work Did). w.items) is)
-      fetch_back (Err refusals.Failed) f is =
-          back_as (ap (λ (h : Hub D K). h.left) f.is) (ap (λ (h : Hub D K). h.right) f.is)
-          (ap (λ (h : Hub D K). h.running) f.is)
-          ∙ ap (λ (l : List Did). behind (held_of s) s.view.registers false l u.view.seen)
-          (ap (λ (w : Work Did). w.items) is)
+        pub fetch_back : (r : Result (Unit {0}) FetchNo)
+            → Fetches bytes size off steps faults setting may_refuse must_refuse x y c k
+            (record_of x c).regs at len r
+            → work ≡ work_by bytes (said.Fetched k r0.regs at len r) y
+            → HasRead k at len r (held_of s) (held_of u)
+        fetch_back (Ok a) f is =
+            let e = back_as (ap (λ (h : Hub D K). h.left) f.is) (ap (λ (h : Hub D K). h.right) f.is)
+            (ap (λ (h : Hub D K). h.running) f.is) in
+            let last = read_last s t x taken known c core y small fit bytes size off steps faults setting
+            may_refuse must_refuse k at len r0 own f in
+            record {
+              bytes = last_of len y.journal.bytes;
+              many = ap length last ∙ f.many;
+              is = e ∙ ap (λ (l : List Did). behind (held_of s) s.view.registers false l u.view.seen)
+                  (ap (λ (w : Work Did). w.items) is ∙ ap (λ (q : Regs).
+                  Fetched k q at (last_of len y.journal.bytes) ∷ []) same_own);
+            }
+        fetch_back (Err refusals.Unmapped) f is =
+            back_as (ap (λ (h : Hub D K). h.left) f.1) (ap (λ (h : Hub D K). h.right) f.1)
+            (ap (λ (h : Hub D K). h.running) f.1)
+            ∙ ap (λ (l : List Did). behind (held_of s) s.view.registers false l u.view.seen)
+            (ap (λ (w : Work Did). w.items) is)
+        fetch_back (Err refusals.Masked) f is =
+            back_as (ap (λ (h : Hub D K). h.left) f.2) (ap (λ (h : Hub D K). h.right) f.2)
+            (ap (λ (h : Hub D K). h.running) f.2)
+            ∙ ap (λ (l : List Did). behind (held_of s) s.view.registers false l u.view.seen)
+            (ap (λ (w : Work Did). w.items) is)
+        fetch_back (Err refusals.Off) f is =
+            back_as (ap (λ (h : Hub D K). h.left) f.is) (ap (λ (h : Hub D K). h.right) f.is)
+            (ap (λ (h : Hub D K). h.running) f.is)
+            ∙ ap (λ (l : List Did). behind (held_of s) s.view.registers false l u.view.seen)
+            (ap (λ (w : Work Did). w.items) is)
+        fetch_back (Err refusals.Failed) f is =
+            back_as (ap (λ (h : Hub D K). h.left) f.is) (ap (λ (h : Hub D K). h.right) f.is)
+            (ap (λ (h : Hub D K). h.running) f.is)
+            ∙ ap (λ (l : List Did). behind (held_of s) s.view.registers false l u.view.seen)
+            (ap (λ (w : Work Did). w.items) is)
 
   -- what the device shows of its bytes
   pub read_part : (s t : Seated (Base S K) Did) (x : Hub D K) (bytes : D → Option (List ℕ))

@@ -12,9 +12,7 @@ ghost use Rattle.bus_hub.specs.Log.{IsNote};
 ghost use Rattle.bus_hub.specs.Told.{asked};
 ghost use Rattle.cache_gate.specs.Own.{HasRoom, IsInside, MayMake, Keeps, Adds, HasFetched, HasStepped, IsPartOf, set_to};
 
-use crate::steps;
-use crate::turns;
-use crate::waits;
+use crate::{steps, turns, waits};
 use bus_hub::{Act, Bus, Duty, FetchNo};
 use core_state::{Records, Regs};
 use crash_images::Crash;

@@ -21,9 +21,16 @@ pub(crate) enum Said {
     /// They are in force again.
     Restored,
     /// They were set.
-    Set { k: u32, regs: Regs },
+    Set {
+        k: u32,
+        regs: Regs,
+    },
     /// An entry was noted.
-    Noting { k: u32, regs: Regs, act: Act },
+    Noting {
+        k: u32,
+        regs: Regs,
+        act: Act,
+    },
     /// Bytes were fetched, or not.
     Fetched {
         k: u32,
@@ -44,7 +51,9 @@ pub(crate) enum Said {
         answer: Result<Ready, NorFault>,
     },
     /// The device was read.
-    Looked { answer: Result<(), NorFault> },
+    Looked {
+        answer: Result<(), NorFault>,
+    },
     /// Pages were mapped, or not.
     Mapped {
         flash_page: u32,

@@ -34,7 +34,13 @@ fn filled(alloc: Global, byte: u8, size: usize) -> Result<Vec<u8>, AllocError>
 fn gates(
     alloc: Global,
     rooms: [Room; 2],
-) -> Option<(Gates<RamNor, AnyDuty>, Ended<RamNor, AnyDuty>, Ended<RamNor, AnyDuty>)>
+) -> Option<
+    (
+        Gates<RamNor, AnyDuty>,
+        Ended<RamNor, AnyDuty>,
+        Ended<RamNor, AnyDuty>,
+    ),
+>
     requires entries { (room_in rooms 0).entries + (room_in rooms 1).entries < 2 ^ 32 }
     requires bytes { (room_in rooms 0).bytes + (room_in rooms 1).bytes < 2 ^ 32 }
     ensures left { IfSome result (λ r. IsReadyFor r.0 0 1 (room_in rooms 0).entries
@@ -132,10 +138,7 @@ fn together<R: Threads + Wait + Sync>(
     right: Ended<RamNor, AnyDuty>,
     erases: u32,
     fetches: u32,
-) -> (
-    (Ended<RamNor, AnyDuty>, u32),
-    (Ended<RamNor, AnyDuty>, u32),
-)
+) -> ((Ended<RamNor, AnyDuty>, u32), (Ended<RamNor, AnyDuty>, u32))
     requires left { IsReadyFor gates.now 0 erases 2 0 69632 left }
     requires right { IsReadyFor gates.now 1 fetches 1 4 0 right }
     ensures left { (result.0.0.table ≡ gates.now) × (result.0.0.core ≡ 0) × (result.0.0.base ≡ left.base) }
@@ -165,10 +168,7 @@ fn alone<R: Wait>(rt: &R, alloc: Global) -> Option<(Journal, u32)> {
 }
 
 /// Two threads, one of which erases and the other fetches: the journal, and how often each did.
-fn two_threads<R: Threads + Wait + Sync>(
-    rt: &R,
-    alloc: Global,
-) -> Option<(Journal, u32, u32)> {
+fn two_threads<R: Threads + Wait + Sync>(rt: &R, alloc: Global) -> Option<(Journal, u32, u32)> {
     let erases = Room {
         entries: 40,
         bytes: 0,
