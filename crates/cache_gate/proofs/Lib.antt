@@ -1,0 +1,4 @@
+pub mod Walks
+pub mod Taken
+pub mod States
+pub mod Rooms

@@ -1,0 +1,97 @@
+-- Which events of the machine a core's own work is: a fetch, a Set, the begin and the end of a step.
+use Rattle.std.specs.Prelude.{◌≡◌, ◌==◌, ℕ, List, [], ◌∷◌, ◌++◌, Option, Some, None, if◌then◌else◌}
+use Rattle.core_state.specs.declared.registers.Regs.{Regs}
+use Rattle.duo_machine.specs.declared.events.Kind.{Kind}
+use Rattle.duo_machine.specs.declared.events.Kind.TheVariants as kinds
+use Rattle.park_words.specs.declared.view.Act.{Act}
+use Rattle.park_words.specs.declared.view.Act.TheVariants.{Made, Took, Gave}
+use Rattle.park_words.specs.declared.view.Entry.{Entry}
+use Rattle.park_words.specs.declared.view.View.{View}
+use Rattle.park_words.specs.Story.{done_by}
+use Rattle.park_words.specs.Views.{Seated}
+use Rattle.bus_hub.specs.declared.did.Did.{Did}
+use Rattle.bus_hub.specs.declared.did.Did.TheVariants.{Opened, Closed, Broken, Fetched, Noted, Denied, Mapping, Unmapping, Missed, Masked}
+use Rattle.bus_hub.specs.declared.entry.Act.{Act as Noting}
+use Rattle.bus_hub.specs.declared.entry.Act.TheVariants.{Open, Close, Fetch, Set, Mapped, Unmapped, Wrote, Refused}
+use Rattle.bus_hub.specs.Fetch.{space_at}
+
+-- the event, where it is work: what a core does to park, or to let the other one park, is none
+abbrev pub work_of : Kind → Option Kind
+work_of kinds.Begin = Some kinds.Begin
+work_of kinds.Done = Some kinds.Done
+work_of (kinds.Set regs) = Some (kinds.Set regs)
+work_of (kinds.Fetch space) = Some (kinds.Fetch space)
+work_of kinds.Start = None
+work_of kinds.Rest = None
+work_of kinds.Take = None
+work_of kinds.Give = None
+work_of kinds.Save = None
+work_of kinds.Back = None
+work_of kinds.Hold = None
+work_of kinds.Ask = None
+work_of kinds.Park = None
+work_of kinds.See = None
+work_of kinds.End = None
+work_of kinds.Leave = None
+
+-- one more event, or none
+abbrev pub before : Option Kind → List Kind → List Kind
+before None later = later
+before (Some kind) later = kind ∷ later
+
+-- the work of an entry, before later work
+abbrev pub act_before : Act → List Kind → List Kind
+act_before (Made kind) later = before (work_of kind) later
+act_before Took later = later
+act_before Gave later = later
+
+-- the work among the entries of a run
+abbrev pub works_of : List Entry → List Kind
+works_of [] = []
+works_of (e ∷ run) = act_before e.act (works_of run)
+
+-- the work that the event of a turn is, if it had one
+abbrev pub work_in : Option Kind → List Kind
+work_in None = []
+work_in (Some kind) = before (work_of kind) []
+
+-- from what a core had seen of the run to what it has seen, its own work was exactly this, in order
+pub record Works (work : List Kind) (c : ℕ) (seen : List Entry) (c' : ℕ) (seen' : List Entry)
+    : Type 0 where
+  pub core : c' ≡ c
+  pub later : List Entry
+  pub is : seen' ≡ seen ++ later
+  pub own : works_of (done_by c later) ≡ work
+
+-- the same of what a seat knows
+abbrev pub Worked : {B D : Type 0} → List Kind → View B D → View B D → Type 0
+Worked work v w = Works work v.core v.seen w.core w.seen
+
+-- the event that a note of the journal is
+abbrev pub noted_event : Noting → Regs → Option Kind
+noted_event (Open erase at len) regs = None
+noted_event (Close end) regs = None
+noted_event (Fetch at start len) regs = None
+noted_event Set regs = Some (kinds.Set regs)
+noted_event (Mapped at) regs = None
+noted_event (Unmapped at) regs = None
+noted_event Wrote regs = None
+noted_event (Refused why) regs = None
+
+-- the event that an item of a share is
+abbrev pub event_of : Did → Option Kind
+event_of (Opened k regs step) = Some kinds.Begin
+event_of (Closed k regs) = Some kinds.Done
+event_of (Broken k regs why left) = Some kinds.Done
+event_of (Fetched k regs at bytes) = Some (kinds.Fetch (space_at at))
+event_of (Noted k regs act) = noted_event act regs
+event_of (Denied why) = None
+event_of (Mapping flash_page n space answer) = None
+event_of (Unmapping at answer) = None
+event_of (Missed at len) = None
+event_of (Masked at len) = None
+
+-- the events that a share is, in order
+abbrev pub events_in : List Did → List Kind
+events_in [] = []
+events_in (did ∷ share) = before (event_of did) (events_in share)
