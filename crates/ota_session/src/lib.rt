@@ -1,0 +1,6 @@
+//! An update: its steps, and what a loss of power leaves of them.
+#![tactic(auto)]
+
+mod laws;
+
+pub use laws::data_steps_fill_their_slot;
