@@ -1,5 +1,5 @@
 -- The data steps of an update keep to their slot, and leave the image there.
-use Rattle.std.proofs.Common.{◌≡◌, ◌≢◌, ◌⊎◌, inl, inr, ℕ, ◌+◌, ◌-◌, ◌*◌, ◌/◌, ◌%◌, ◌<◌, ◌≤◌, List, [], ◌∷◌, ◌++◌, length, take, drop, slice_get, Option, Some, None, refl, sym, ap, ◌∙◌, subst, arith, length-drop}
+use Rattle.std.proofs.Common.{◌≡◌, ◌≢◌, inl, inr, ℕ, ◌+◌, ◌-◌, ◌*◌, ◌%◌, ◌<◌, ◌≤◌, List, [], ◌∷◌, length, take, drop, Option, Some, None, refl, sym, ap, ◌∙◌, subst, arith, length-drop}
 use Rattle.std.specs.Prelude.{replicate, slice_index}
 use Rattle.std.specs.List.{All, AllByRecursion}
 use Rattle.std.proofs.lemmas.Bool.Decides.{nat_tests}
@@ -12,15 +12,14 @@ use Rattle.crash_images.specs.Crash.{LeftAfter}
 use Rattle.crash_images.specs.Agrees.{Agrees, Covers, IsBeside, StepsWithin}
 use Rattle.crash_images.proofs.AgreesLaws.{agrees_part, left_agrees}
 use Rattle.partition_table.specs.declared.app.App.{App}
-use Rattle.partition_table.specs.declared.app.App.TheVariants.{Ota}
 use Rattle.partition_table.specs.declared.row.Row.{Row}
-use Rattle.partition_table.specs.Rules.{Stands, alignment_of, is_aligned, is_within}
+use Rattle.partition_table.specs.Rules.{Stands, alignment_of, is_aligned}
 use Rattle.partition_table.specs.Layout.{Apart, IsPlaced, Places, row_for}
 use Rattle.boot_select.specs.Boots.{entries_in, image_by, images_in, slot_in}
 use Rattle.image_layout.specs.Whole.{Whole}
 use Rattle.image_verify.specs.Held.{held}
 use Rattle.image_verify.proofs.HeldFacts.{held_from}
-use Rattle.flash_ops.specs.Steps.{LiesIn, erase_steps, with_part, write_steps}
+use Rattle.flash_ops.specs.Steps.{LiesIn, with_part, write_steps}
 use Rattle.flash_ops.proofs.EraseLemmas.{bytes_of_both, inside_of_erase}
 use Rattle.flash_ops.proofs.WriteLemmas.{inside_of_write}
 use Rattle.boot_run.proofs.FrameLemmas.{same_entry, stands_inside, steps_append}

@@ -1,5 +1,5 @@
 -- When an update begins, and what boots of what a loss of power leaves of it.
-use Rattle.std.specs.Prelude.{◌≡◌, ◌⊎◌, ◌<◌, ◌≤◌, ℕ, All, List, length, Option, Some}
+use Rattle.std.specs.Prelude.{◌≡◌, ◌⊎◌, ◌<◌, ◌≤◌, ℕ, All, List, length, Some}
 use Rattle.partition_table.specs.declared.app.App.TheVariants.{Ota}
 use Rattle.partition_table.specs.Layout.{IsPlaced, Places}
 use Rattle.otadata.specs.Entry.{IsStored}
@@ -28,12 +28,13 @@ MatchesByChance layout flash aim left =
     IsChance (entries_in layout flash aim.next.sector) aim.next.entry
     (entries_in layout left aim.next.sector)
 
--- what boots is the old application with its image; or the new one with its, which is whole within
--- its slot
-abbrev pub BootsOldOrNew : Places → Aim → ℕ → List ℕ → List ℕ → List ℕ → Type 0
-BootsOldOrNew layout aim size old new left =
+-- what boots is the old application with its image; or, where the new image is whole within its slot,
+-- the new one with its, or the entry matches by chance
+abbrev pub BootsOldOrNew : Places → List ℕ → Aim → ℕ → List ℕ → List ℕ → List ℕ → Type 0
+BootsOldOrNew layout flash aim size old new left =
     (boots_in held layout left ≡ Some (aim.running, old))
-    ⊎ (Whole new size × (boots_in held layout left ≡ Some (Ota aim.slot, new)))
+    ⊎ (Whole new size × ((boots_in held layout left ≡ Some (Ota aim.slot, new))
+    ⊎ MatchesByChance layout flash aim left))
 
 -- the flash is a pair of the old application and the new one
 abbrev pub LeavesPair : Places → Aim → List ℕ → List ℕ → List ℕ → Type 0

@@ -1,16 +1,22 @@
 //! What the steps of an update leave, over all flashes.
 
-ghost use Rattle.std.specs.Prelude.{◌≡◌, ◌≢◌, ◌<◌, ◌≤◌, ℕ, All, List, Some, length, slice_get};
+ghost use Rattle.std.specs.Prelude.{◌≡◌, ◌≢◌, ◌⊎◌, ◌<◌, ◌≤◌, ◌++◌, ℕ, All, List, Some, None, length, slice_get};
 ghost use Rattle.nor_device.specs.Flash.{after_steps};
 ghost use Rattle.crash_images.specs.Crash.{LeftAfter};
 ghost use Rattle.partition_table.specs.declared.app.App.{App};
 ghost use Rattle.partition_table.specs.declared.app.App.TheVariants.{Ota};
 ghost use Rattle.partition_table.specs.declared.row.Row.{Row as Shown};
-ghost use Rattle.partition_table.specs.Layout.{IsPlaced, Places};
+ghost use Rattle.partition_table.specs.Layout.{IsPlaced, Places, layout_in};
 ghost use Rattle.boot_select.specs.Boots.{entries_in, images_in};
+ghost use Rattle.rollback.specs.Boots.{boots_in};
 ghost use Rattle.image_layout.specs.Whole.{Whole};
 ghost use Rattle.image_verify.specs.Held.{held};
-ghost use Rattle.ota_session.specs.Driver.{data_steps};
+ghost use Rattle.boot_run.specs.declared.aims.Aim.{Aim};
+ghost use Rattle.boot_run.specs.Rewriting.{rewrite};
+ghost use Rattle.ota_session.specs.Driver.{data_steps, driver_steps, next_rewrite};
+ghost use Rattle.ota_session.specs.Session.{BootsOldOrNew, IsOpening, LeavesPair, MatchesByChance};
+
+use image_verify::whole_images_show_no_fault;
 
 /// The erases and the programs of an image leave it in its slot, where it is whole (`held`). At
 /// every moment of them, whatever a loss of power leaves, the entries (`entries`) and the images of
@@ -33,3 +39,50 @@ pub fn data_steps_fill_their_slot()
         → LeftAfter flash (data_steps row.offset image) left
         → images_in held layout left other ≡ images_in held layout flash other }
 {}
+
+/// Of an image that is whole within its slot, the steps of an update are the erases, the programs,
+/// and the rewrite of the next entry behind them.
+pub fn whole_images_are_announced()
+    ensures { (layout : Places) (aim : Aim) (image : List ℕ) (row : Shown)
+        → slice_get layout.slots aim.slot ≡ Some row → Whole image row.size
+        → driver_steps layout aim image
+        ≡ data_steps row.offset image ++ rewrite layout.otadata (next_rewrite aim) }
+{
+    whole_images_show_no_fault();
+}
+
+/// An update begins on `flash`, beside an application that runs from the image `old`. Of each flash
+/// that a loss of power may leave of its steps, at any moment, the old application boots, or, where
+/// the new image is whole, the new one, or the entry that is found in the sector of the next one
+/// matches by chance (`boots`); as long as only data were written, the old one boots (`before`).
+/// Some application boots, chance or not (`some`). But for chance, what is left is a pair of both
+/// applications (`pair`). The layout stays (`layout`). Behind all steps the new application boots,
+/// where its image is whole (`done`).
+pub fn lost_updates_boot_old_or_new()
+    ensures before { (layout : Places) (flash left : List ℕ) (aim : Aim) (old new : List ℕ)
+        (row : Shown)
+        → IsOpening layout flash aim old new → slice_get layout.slots aim.slot ≡ Some row
+        → LeftAfter flash (data_steps row.offset new) left
+        → boots_in held layout left ≡ Some (aim.running, old) }
+    ensures boots { (layout : Places) (flash left : List ℕ) (aim : Aim) (old new : List ℕ)
+        (row : Shown)
+        → IsOpening layout flash aim old new → slice_get layout.slots aim.slot ≡ Some row
+        → LeftAfter flash (driver_steps layout aim new) left
+        → BootsOldOrNew layout flash aim row.size old new left }
+    ensures some { (layout : Places) (flash left : List ℕ) (aim : Aim) (old new : List ℕ)
+        → IsOpening layout flash aim old new → LeftAfter flash (driver_steps layout aim new) left
+        → boots_in held layout left ≢ None }
+    ensures pair { (layout : Places) (flash left : List ℕ) (aim : Aim) (old new : List ℕ)
+        → IsOpening layout flash aim old new → LeftAfter flash (driver_steps layout aim new) left
+        → LeavesPair layout aim old new left ⊎ MatchesByChance layout flash aim left }
+    ensures layout { (layout : Places) (flash left : List ℕ) (aim : Aim) (old new : List ℕ)
+        → IsOpening layout flash aim old new → LeftAfter flash (driver_steps layout aim new) left
+        → layout_in left ≡ layout_in flash }
+    ensures done { (layout : Places) (flash : List ℕ) (aim : Aim) (old new : List ℕ) (row : Shown)
+        → IsOpening layout flash aim old new → slice_get layout.slots aim.slot ≡ Some row
+        → Whole new row.size
+        → boots_in held layout (after_steps flash (driver_steps layout aim new))
+        ≡ Some (Ota aim.slot, new) }
+{
+    whole_images_show_no_fault();
+}

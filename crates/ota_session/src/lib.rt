@@ -3,4 +3,6 @@
 
 mod laws;
 
-pub use laws::data_steps_fill_their_slot;
+pub use laws::{
+    data_steps_fill_their_slot, lost_updates_boot_old_or_new, whole_images_are_announced,
+};
