@@ -1,3 +1,5 @@
 -- Base first. Crates above cite these lemmas.
 pub mod DataLemmas
 pub mod SessionLemmas
+pub mod BesideLemmas
+pub mod SparedLemmas

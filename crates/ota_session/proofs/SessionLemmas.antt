@@ -150,7 +150,7 @@ unfolding is_within
 row_behind size row stands = let within = stands.within in grind (arith, nat_tests)
 
 -- a pair stays one where the entries are the same
-pair_same : (layout : Places) (images : Images) (es gs : ℕ → Entry) (y : ℕ) (app : App)
+pub pair_same : (layout : Places) (images : Images) (es gs : ℕ → Entry) (y : ℕ) (app : App)
     (image : List ℕ) (slot : ℕ) (target : List ℕ) → y < 2
     → ((sector : ℕ) → sector < 2 → gs sector ≡ es sector)
     → IsPair layout images es y app image slot target
@@ -417,6 +417,11 @@ module _ (shown : ShowsNone) (layout : Places) (flash left : List ℕ) (aim : Ai
       ≡ Some (Ota aim.slot, new)
   session_done whole = all_boot layout flash aim old new opening shown
       (subst (λ (r : Row). Whole new r.size) (sym same) whole)
+
+-- the next entry goes to one of the two sectors
+pub sector_two : (layout : Places) (flash : List ℕ) (aim : Aim) (old new : List ℕ)
+    → IsOpening layout flash aim old new → aim.next.sector < 2
+sector_two layout flash aim old new opening = two layout flash aim old new opening
 
 -- the steps of a whole image
 pub session_steps : ShowsNone → (layout : Places) (aim : Aim) (image : List ℕ) (row : Row)

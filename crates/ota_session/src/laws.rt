@@ -1,7 +1,9 @@
 //! What the steps of an update leave, over all flashes.
 
-ghost use Rattle.std.specs.Prelude.{◌≡◌, ◌≢◌, ◌⊎◌, ◌<◌, ◌≤◌, ◌++◌, ℕ, All, List, Some, None, length, slice_get};
-ghost use Rattle.nor_device.specs.Flash.{after_steps};
+ghost use Rattle.std.specs.Prelude.{◌≡◌, ◌≢◌, ◌⊎◌, ◌<◌, ◌≤◌, ◌++◌, ℕ, All, Bool, true, List, [], ◌∷◌, Some, None, length, slice_get};
+ghost use Rattle.nor_device.specs.declared.step.Step.{Step};
+ghost use Rattle.nor_device.specs.Flash.{after_steps, applied, end_of, start_of};
+ghost use Rattle.nor_device.specs.Torn.{Torn};
 ghost use Rattle.crash_images.specs.Crash.{LeftAfter};
 ghost use Rattle.partition_table.specs.declared.app.App.{App};
 ghost use Rattle.partition_table.specs.declared.app.App.TheVariants.{Ota};
@@ -14,6 +16,7 @@ ghost use Rattle.image_verify.specs.Held.{held};
 ghost use Rattle.boot_run.specs.declared.aims.Aim.{Aim};
 ghost use Rattle.boot_run.specs.Rewriting.{rewrite};
 ghost use Rattle.ota_session.specs.Driver.{data_steps, driver_steps, next_rewrite};
+ghost use Rattle.ota_session.specs.Beside.{IsApart, StandsBeside};
 ghost use Rattle.ota_session.specs.Session.{BootsOldOrNew, IsOpening, LeavesPair, MatchesByChance};
 
 use image_verify::whole_images_show_no_fault;
@@ -83,6 +86,66 @@ pub fn lost_updates_boot_old_or_new()
         → Whole new row.size
         → boots_in held layout (after_steps flash (driver_steps layout aim new))
         ≡ Some (Ota aim.slot, new) }
+{
+    whole_images_show_no_fault();
+}
+
+/// What stands of the steps of one core beside another, which changes bytes only where it may write
+/// (`others`): at the first flash nothing is made (`first`); a next step that is torn (`torn`) or
+/// made (`made`) leaves it so, and so does a step of the other core, torn or made (`other`).
+pub fn steps_stand_beside_another_core()
+    ensures first { (flash : List ℕ) (steps : List Step) (others : ℕ → Bool)
+        → StandsBeside flash [] steps others flash }
+    ensures torn { (first : List ℕ) (made : List Step) (step : Step) (rest : List Step)
+        (others : ℕ → Bool) (now left : List ℕ)
+        → StandsBeside first made (step ∷ rest) others now → Torn now step left
+        → StandsBeside first made (step ∷ rest) others left }
+    ensures made { (first : List ℕ) (made : List Step) (step : Step) (rest : List Step)
+        (others : ℕ → Bool) (now : List ℕ) → StandsBeside first made (step ∷ rest) others now
+        → StandsBeside first (made ++ (step ∷ [])) rest others (applied now step) }
+    ensures other { (first : List ℕ) (made rest : List Step) (others : ℕ → Bool) (step : Step)
+        (now left : List ℕ) → StandsBeside first made rest others now
+        → ((i : ℕ) → start_of step ≤ i → i < end_of step → others i ≡ true)
+        → Torn now step left → StandsBeside first made rest others left }
+{}
+
+/// So it is of an update beside another core that may write neither to the table and the OTA data
+/// nor to an application's partition: what stands while its steps are made boots the old
+/// application or the new one, and so on, as `lost_updates_boot_old_or_new` says.
+pub fn updates_stand_beside_another_core()
+    ensures before { (layout : Places) (flash now : List ℕ) (aim : Aim) (old new : List ℕ)
+        (made rest : List Step) (others : ℕ → Bool)
+        → IsOpening layout flash aim old new → IsApart layout others
+        → StandsBeside flash made rest others now → (row : Shown)
+        → slice_get layout.slots aim.slot ≡ Some row → data_steps row.offset new ≡ made ++ rest
+        → boots_in held layout now ≡ Some (aim.running, old) }
+    ensures boots { (layout : Places) (flash now : List ℕ) (aim : Aim) (old new : List ℕ)
+        (made rest : List Step) (others : ℕ → Bool)
+        → IsOpening layout flash aim old new → IsApart layout others
+        → StandsBeside flash made rest others now → (row : Shown)
+        → slice_get layout.slots aim.slot ≡ Some row → driver_steps layout aim new ≡ made ++ rest
+        → BootsOldOrNew layout flash aim row.size old new now }
+    ensures some { (layout : Places) (flash now : List ℕ) (aim : Aim) (old new : List ℕ)
+        (made rest : List Step) (others : ℕ → Bool)
+        → IsOpening layout flash aim old new → IsApart layout others
+        → StandsBeside flash made rest others now → driver_steps layout aim new ≡ made ++ rest
+        → boots_in held layout now ≢ None }
+    ensures pair { (layout : Places) (flash now : List ℕ) (aim : Aim) (old new : List ℕ)
+        (made rest : List Step) (others : ℕ → Bool)
+        → IsOpening layout flash aim old new → IsApart layout others
+        → StandsBeside flash made rest others now → driver_steps layout aim new ≡ made ++ rest
+        → LeavesPair layout aim old new now ⊎ MatchesByChance layout flash aim now }
+    ensures layout { (layout : Places) (flash now : List ℕ) (aim : Aim) (old new : List ℕ)
+        (made rest : List Step) (others : ℕ → Bool)
+        → IsOpening layout flash aim old new → IsApart layout others
+        → StandsBeside flash made rest others now → driver_steps layout aim new ≡ made ++ rest
+        → layout_in now ≡ layout_in flash }
+    ensures done { (layout : Places) (flash now : List ℕ) (aim : Aim) (old new : List ℕ)
+        (others : ℕ → Bool) (row : Shown)
+        → IsOpening layout flash aim old new → IsApart layout others
+        → slice_get layout.slots aim.slot ≡ Some row → Whole new row.size
+        → StandsBeside flash (driver_steps layout aim new) [] others now
+        → boots_in held layout now ≡ Some (Ota aim.slot, new) }
 {
     whole_images_show_no_fault();
 }

@@ -4,5 +4,6 @@
 mod laws;
 
 pub use laws::{
-    data_steps_fill_their_slot, lost_updates_boot_old_or_new, whole_images_are_announced,
+    data_steps_fill_their_slot, lost_updates_boot_old_or_new, steps_stand_beside_another_core,
+    updates_stand_beside_another_core, whole_images_are_announced,
 };
