@@ -3,3 +3,4 @@ pub mod DataLemmas
 pub mod SessionLemmas
 pub mod BesideLemmas
 pub mod SparedLemmas
+pub mod StepLemmas

@@ -135,7 +135,7 @@ image_left shown flash left otadata row next (byte ∷ bytes) after =
         else slot_erases row.offset image) left) p after))
 
 -- the steps by the partition of their slot
-driver_is : (layout : Places) (aim : Aim) (image : List ℕ) (row : Row)
+pub driver_is : (layout : Places) (aim : Aim) (image : List ℕ) (row : Row)
     → slice_get layout.slots aim.slot ≡ Some row
     → driver_steps layout aim image ≡ image_steps layout.otadata row (next_rewrite aim) image
 unfolding driver_steps
@@ -194,7 +194,9 @@ module _ (layout : Places) (flash : List ℕ) (aim : Aim) (old new : List ℕ)
   runs = boots_holds layout hs es aim.running old settled.booted
 
   some : 0 < length layout.slots
-  some = let within = slice_get_within layout.slots aim.slot row opening.begins.row_is in omega arith
+  some =
+      let within = slice_get_within layout.slots aim.slot row opening.begins.row_is in
+      omega arith
 
   heralds : Heralds layout es aim.running aim.next.sector aim.slot aim.next.entry
   heralds = aim-heralds layout es aim.running aim.slot aim.next some opening.few opening.begins.aims

@@ -6,7 +6,7 @@ use Rattle.partition_table.specs.Layout.{Places}
 use Rattle.rollback.specs.declared.rewrite.Rewrite.{Rewrite}
 use Rattle.image_verify.specs.declared.bad.BadImage.{BadImage}
 use Rattle.image_verify.specs.Bad.{bad}
-use Rattle.flash_ops.specs.Steps.{erase_steps, write_steps}
+use Rattle.flash_ops.specs.Steps.{erase_steps, pages_in, write_steps}
 use Rattle.boot_run.specs.Rewriting.{rewrite}
 use Rattle.boot_run.specs.declared.aims.Aim.{Aim}
 
@@ -31,7 +31,7 @@ abbrev pub sealed_steps : Option BadImage → List Step → List Step → List S
 sealed_steps None front entry = front ++ entry
 sealed_steps (Some why) front entry = front
 
--- the steps of an update by the bytes of the image: none of an image with no bytes, the erases alone
+-- the steps of an update by the bytes of the image: none where there is no byte, the erases alone
 -- where the first byte is not that of an image, the erases and the programs where the bytes are no
 -- whole image within the partition, else the entry behind them
 abbrev pub image_steps : ℕ → Row → Rewrite → List ℕ → List Step
@@ -51,3 +51,8 @@ steps_to otadata (Some row) next image = image_steps otadata row next image
 unfoldable pub driver_steps : Places → Aim → List ℕ → List Step
 driver_steps layout aim image =
     steps_to layout.otadata (slice_get layout.slots aim.slot) (next_rewrite aim) image
+
+-- how many steps there are of a whole image of so many bytes: a sector each 4096, a program a page,
+-- and two of the entry
+abbrev pub step_count : ℕ → ℕ → ℕ
+step_count at len = (len + 4095) / 4096 + pages_in at len + 2

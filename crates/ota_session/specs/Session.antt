@@ -13,7 +13,8 @@ use Rattle.boot_run.specs.Aim.{Begins}
 
 -- an update begins on this flash, by its layout: it may begin, the application that runs has the
 -- old image, and the aim is for the new one; the next entry is one that 32 bytes hold
-pub record IsOpening (layout : Places) (flash : List ℕ) (aim : Aim) (old new : List ℕ) : Type 0 where
+pub record IsOpening (layout : Places) (flash : List ℕ) (aim : Aim) (old new : List ℕ)
+    : Type 0 where
   pub placed : IsPlaced layout (length flash)
   pub few : length layout.slots ≤ 16
   pub begins : Begins layout (images_in held layout flash) (entries_in layout flash) aim
@@ -28,8 +29,8 @@ MatchesByChance layout flash aim left =
     IsChance (entries_in layout flash aim.next.sector) aim.next.entry
     (entries_in layout left aim.next.sector)
 
--- what boots is the old application with its image; or, where the new image is whole within its slot,
--- the new one with its, or the entry matches by chance
+-- what boots is the old application with its image; or, where the new image is whole within its
+-- slot, the new one with its, or the entry matches by chance
 abbrev pub BootsOldOrNew : Places → List ℕ → Aim → ℕ → List ℕ → List ℕ → List ℕ → Type 0
 BootsOldOrNew layout flash aim size old new left =
     (boots_in held layout left ≡ Some (aim.running, old))

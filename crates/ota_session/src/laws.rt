@@ -9,13 +9,17 @@ ghost use Rattle.partition_table.specs.declared.app.App.{App};
 ghost use Rattle.partition_table.specs.declared.app.App.TheVariants.{Ota};
 ghost use Rattle.partition_table.specs.declared.row.Row.{Row as Shown};
 ghost use Rattle.partition_table.specs.Layout.{IsPlaced, Places, layout_in};
+ghost use Rattle.otadata.specs.Entry.{IsStored};
 ghost use Rattle.boot_select.specs.Boots.{entries_in, images_in};
 ghost use Rattle.rollback.specs.Boots.{boots_in};
 ghost use Rattle.image_layout.specs.Whole.{Whole};
+ghost use Rattle.image_verify.specs.declared.bad.BadImage.{BadImage};
+ghost use Rattle.image_verify.specs.Bad.{bad};
 ghost use Rattle.image_verify.specs.Held.{held};
 ghost use Rattle.boot_run.specs.declared.aims.Aim.{Aim};
+ghost use Rattle.boot_run.specs.Aim.{IsAimed};
 ghost use Rattle.boot_run.specs.Rewriting.{rewrite};
-ghost use Rattle.ota_session.specs.Driver.{data_steps, driver_steps, next_rewrite};
+ghost use Rattle.ota_session.specs.Driver.{data_steps, driver_steps, next_rewrite, slot_erases, step_count};
 ghost use Rattle.ota_session.specs.Beside.{IsApart, StandsBeside};
 ghost use Rattle.ota_session.specs.Session.{BootsOldOrNew, IsOpening, LeavesPair, MatchesByChance};
 
@@ -43,16 +47,37 @@ pub fn data_steps_fill_their_slot()
         → images_in held layout left other ≡ images_in held layout flash other }
 {}
 
-/// Of an image that is whole within its slot, the steps of an update are the erases, the programs,
-/// and the rewrite of the next entry behind them.
-pub fn whole_images_are_announced()
-    ensures { (layout : Places) (aim : Aim) (image : List ℕ) (row : Shown)
+/// The steps of an update by its image, in the partition of the slot: none of no bytes (`empty`);
+/// the erases where the first byte is another than 0xE9 (`unmarked`); erases and programs where the
+/// bytes show a fault (`faulty`); and, of an image that is whole within its slot, the rewrite of the
+/// next entry behind them (`whole`), so many steps in all (`count`).
+pub fn updates_are_their_steps()
+    ensures empty { (layout : Places) (aim : Aim) → driver_steps layout aim [] ≡ [] }
+    ensures unmarked { (layout : Places) (aim : Aim) (row : Shown) (byte : ℕ) (bytes : List ℕ)
+        → slice_get layout.slots aim.slot ≡ Some row → byte ≢ 0xE9
+        → driver_steps layout aim (byte ∷ bytes) ≡ slot_erases row.offset (byte ∷ bytes) }
+    ensures faulty { (layout : Places) (aim : Aim) (row : Shown) (bytes : List ℕ) (why : BadImage)
+        → slice_get layout.slots aim.slot ≡ Some row → bad row.size (0xE9 ∷ bytes) ≡ Some why
+        → driver_steps layout aim (0xE9 ∷ bytes) ≡ data_steps row.offset (0xE9 ∷ bytes) }
+    ensures whole { (layout : Places) (aim : Aim) (image : List ℕ) (row : Shown)
         → slice_get layout.slots aim.slot ≡ Some row → Whole image row.size
         → driver_steps layout aim image
         ≡ data_steps row.offset image ++ rewrite layout.otadata (next_rewrite aim) }
+    ensures count { (layout : Places) (aim : Aim) (image : List ℕ) (row : Shown)
+        → slice_get layout.slots aim.slot ≡ Some row → Whole image row.size
+        → length (driver_steps layout aim image) ≡ step_count row.offset (length image) }
 {
     whole_images_show_no_fault();
 }
+
+/// What `boot_run::aim` answers opens an update, of bytes as many as it was asked for.
+pub fn aimed_updates_open()
+    ensures { (layout : Places) (flash : List ℕ) (aim : Aim) (old new : List ℕ)
+        → IsPlaced layout (length flash) → 0 < length layout.slots → length layout.slots ≤ 16
+        → IsAimed layout (images_in held layout flash) (entries_in layout flash) (length new) aim
+        → images_in held layout flash aim.running ≡ Some old → IsStored aim.next.entry
+        → All (λ b. b < 256) new → IsOpening layout flash aim old new }
+{}
 
 /// An update begins on `flash`, beside an application that runs from the image `old`. Of each flash
 /// that a loss of power may leave of its steps, at any moment, the old application boots, or, where

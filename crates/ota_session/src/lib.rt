@@ -4,6 +4,6 @@
 mod laws;
 
 pub use laws::{
-    data_steps_fill_their_slot, lost_updates_boot_old_or_new, steps_stand_beside_another_core,
-    updates_stand_beside_another_core, whole_images_are_announced,
+    aimed_updates_open, data_steps_fill_their_slot, lost_updates_boot_old_or_new,
+    steps_stand_beside_another_core, updates_are_their_steps, updates_stand_beside_another_core,
 };
