@@ -4,3 +4,4 @@ pub mod SessionLemmas
 pub mod BesideLemmas
 pub mod SparedLemmas
 pub mod StepLemmas
+pub mod VerdictLemmas

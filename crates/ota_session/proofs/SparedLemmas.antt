@@ -28,7 +28,7 @@ module _ (layout : Places) (others : ℕ → Bool) (old new : List ℕ) (apart :
   entry_spared sector two i from to = apart.otadata i (omega arith) (omega arith)
 
   -- they have the same entries
-  spared_entry : (sector : ℕ) → sector < 2
+  pub spared_entry : (sector : ℕ) → sector < 2
       → entries_in layout new sector ≡ entries_in layout old sector
   spared_entry sector two =
       same_entry (IsSpared others) layout old new sector (entry_spared sector two) agrees
@@ -38,7 +38,7 @@ module _ (layout : Places) (others : ℕ → Bool) (old new : List ℕ) (apart :
   spared_images = same_images held (IsSpared others) layout old new apart.apps agrees
 
   -- so they boot the same
-  spared_boots : boots_in held layout new ≡ boots_in held layout old
+  pub spared_boots : boots_in held layout new ≡ boots_in held layout old
   spared_boots = boots_agree held (IsSpared others) layout old new entry_spared apart.apps agrees
 
   -- by the same layout

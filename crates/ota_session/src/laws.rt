@@ -11,6 +11,7 @@ ghost use Rattle.partition_table.specs.declared.row.Row.{Row as Shown};
 ghost use Rattle.partition_table.specs.Layout.{IsPlaced, Places, layout_in};
 ghost use Rattle.otadata.specs.Entry.{IsStored};
 ghost use Rattle.boot_select.specs.Boots.{entries_in, images_in};
+ghost use Rattle.rollback.specs.declared.rewrite.Rewrite.{Rewrite};
 ghost use Rattle.rollback.specs.Boots.{boots_in};
 ghost use Rattle.image_layout.specs.Whole.{Whole};
 ghost use Rattle.image_verify.specs.declared.bad.BadImage.{BadImage};
@@ -18,6 +19,7 @@ ghost use Rattle.image_verify.specs.Bad.{bad};
 ghost use Rattle.image_verify.specs.Held.{held};
 ghost use Rattle.boot_run.specs.declared.aims.Aim.{Aim};
 ghost use Rattle.boot_run.specs.Aim.{IsAimed};
+ghost use Rattle.boot_run.specs.Crashed.{IsRestated, LeavesVerdict};
 ghost use Rattle.boot_run.specs.Rewriting.{rewrite};
 ghost use Rattle.ota_session.specs.Driver.{data_steps, driver_steps, next_rewrite, slot_erases, step_count};
 ghost use Rattle.ota_session.specs.Beside.{IsApart, StandsBeside};
@@ -174,3 +176,24 @@ pub fn updates_stand_beside_another_core()
 {
     whole_images_show_no_fault();
 }
+
+/// So it is of a rewrite that gives an entry another state: what stands beside the other core boots
+/// by a verdict on that entry, or the entry matches by chance (`verdict`), and boots some
+/// application, if the flash before did (`some`). Behind all steps of any list boots what boots of
+/// the flash that they leave (`done`).
+pub fn rewrites_stand_beside_another_core()
+    ensures verdict { (layout : Places) (flash now : List ℕ) (write : Rewrite)
+        (made rest : List Step) (others : ℕ → Bool)
+        → IsPlaced layout (length flash) → IsRestated (entries_in layout flash) write
+        → IsApart layout others → rewrite layout.otadata write ≡ made ++ rest
+        → StandsBeside flash made rest others now → LeavesVerdict layout flash write now }
+    ensures some { (layout : Places) (flash now : List ℕ) (write : Rewrite)
+        (made rest : List Step) (others : ℕ → Bool)
+        → IsPlaced layout (length flash) → IsRestated (entries_in layout flash) write
+        → IsApart layout others → rewrite layout.otadata write ≡ made ++ rest
+        → StandsBeside flash made rest others now → boots_in held layout flash ≢ None
+        → boots_in held layout now ≢ None }
+    ensures done { (layout : Places) (flash now : List ℕ) (steps : List Step) (others : ℕ → Bool)
+        → IsApart layout others → StandsBeside flash steps [] others now
+        → boots_in held layout now ≡ boots_in held layout (after_steps flash steps) }
+{}
