@@ -1,0 +1,7 @@
+-- Base first. Crates above cite these lemmas.
+pub mod DataLemmas
+pub mod SessionLemmas
+pub mod BesideLemmas
+pub mod SparedLemmas
+pub mod StepLemmas
+pub mod VerdictLemmas
