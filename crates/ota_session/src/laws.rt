@@ -51,14 +51,15 @@ pub fn data_steps_fill_their_slot()
 
 /// The steps of an update by its image, in the partition of the slot: none of no bytes (`empty`);
 /// the erases where the first byte is another than 0xE9 (`unmarked`); erases and programs where the
-/// bytes show a fault (`faulty`); and, of an image that is whole within its slot, the rewrite of the
-/// next entry behind them (`whole`), so many steps in all (`count`).
+/// bytes show a fault (`faulty`); and, of an image that is whole within its slot, the rewrite of
+/// the next entry behind them (`whole`), so many steps in all (`count`).
 pub fn updates_are_their_steps()
     ensures empty { (layout : Places) (aim : Aim) → driver_steps layout aim [] ≡ [] }
     ensures unmarked { (layout : Places) (aim : Aim) (row : Shown) (byte : ℕ) (bytes : List ℕ)
         → slice_get layout.slots aim.slot ≡ Some row → byte ≢ 0xE9
         → driver_steps layout aim (byte ∷ bytes) ≡ slot_erases row.offset (byte ∷ bytes) }
-    ensures faulty { (layout : Places) (aim : Aim) (row : Shown) (bytes : List ℕ) (why : BadImage)
+    ensures faulty { (layout : Places) (aim : Aim) (row : Shown) (bytes : List ℕ)
+        (why : BadImage)
         → slice_get layout.slots aim.slot ≡ Some row → bad row.size (0xE9 ∷ bytes) ≡ Some why
         → driver_steps layout aim (0xE9 ∷ bytes) ≡ data_steps row.offset (0xE9 ∷ bytes) }
     ensures whole { (layout : Places) (aim : Aim) (image : List ℕ) (row : Shown)
