@@ -3,7 +3,7 @@ use Rattle.std.specs.Prelude.{◌≡◌, ℕ, ◌+◌, ◌*◌, ◌%◌, ◌<◌
 use Rattle.image_layout.specs.declared.space.Space.{Space}
 use Rattle.image_layout.specs.declared.space.Space.TheVariants.{Data, Code}
 use Rattle.mmu_map.specs.declared.page_use.PageUse.{PageUse}
-use Rattle.mmu_map.specs.declared.page_use.PageUse.TheVariants.{Free}
+use Rattle.mmu_map.specs.declared.page_use.PageUse.TheVariants.{Free, Fixed, First, Later}
 use Rattle.mmu_map.specs.declared.place.Place.{Place}
 use Rattle.mmu_map.specs.declared.runs.NoPages.{NoPages}
 use Rattle.mmu_map.specs.declared.runs.NotMapped.{NotMapped}
@@ -42,6 +42,17 @@ flash_address at (Some flash_page) = Some (flash_page * 65536 + at % 65536)
 -- the flash address behind an address, where it is mapped
 abbrev pub translated : Map → ℕ → Option ℕ
 translated m at = flash_address at (flash_page_of (use_in m (place_of at)))
+
+-- a page that is used so stays as it is for good
+abbrev pub IsForGood : PageUse → Type 0
+IsForGood Free = ⊥
+IsForGood (Fixed flash_page) = Unit {0}
+IsForGood (First flash_page n) = ⊥
+IsForGood (Later flash_page) = ⊥
+
+-- the address lies in a page that was fixed
+abbrev pub IsFixedAt : Map → ℕ → Type 0
+IsFixedAt m at = IsForGood (use_in m (place_of at))
 
 -- so many pages from the one at the place on are there, and free
 abbrev pub AreFreeFrom : Map → Option Place → ℕ → Type 0
