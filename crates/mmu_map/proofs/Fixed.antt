@@ -2,14 +2,16 @@
 use Rattle.std.specs.Prelude.{◌≡◌, ◌⊎◌, ℕ, zero, suc, ◌+◌, ◌-◌, ◌*◌, ◌/◌, ◌<◌, ◌≤◌, List, [], ◌∷◌, length, replicate, Option, Some, None, Result, Ok, Err, refl}
 use Rattle.std.proofs.Common.{◌∙◌, sym, ap, subst, inl, inr, arith}
 use Rattle.std.proofs.Math.ListN.{length-replicate}
+use Rattle.std.proofs.lemmas.Bool.{cases_lt}
 use Rattle.image_layout.specs.declared.space.Space.{Space}
+use Rattle.image_layout.specs.declared.space.Space.TheVariants.{Data, Code}
 use Rattle.mmu_map.specs.declared.place.Place.{Place}
 use Rattle.mmu_map.specs.declared.page_use.PageUse.{PageUse}
 use Rattle.mmu_map.specs.declared.page_use.PageUse.TheVariants.{Free, Fixed, First, Later}
 use Rattle.mmu_map.specs.declared.runs.NoPages.{NoPages}
 use Rattle.mmu_map.specs.declared.runs.NotMapped.{NotMapped}
 use Rattle.mmu_map.specs.Place.{place, place_of, pages_in, address_of}
-use Rattle.mmu_map.specs.Runs.{use_at, run_length, AreFree, IsRunAt, fixed_run, mapped_run}
+use Rattle.mmu_map.specs.Runs.{use_at, run_length, AreFree, IsLowest, IsRunAt, fixed_run, mapped_run}
 use Rattle.mmu_map.specs.Map.{Map, IsWhole, IsForGood, IsFixedAt, uses_in, use_in, translated, with_run_at, AreFreeFrom, IsFreeRun, IsRun, IsRunIn, IsMapAnswer, after_map, IsUnmapAnswer, after_unmap, fixed, mapped, freed}
 use Rattle.mmu_map.specs.Calls.{Call, FixedAt, MappedAt, FreedAt, CanMake, CanMakeAll, after_call, after_calls, within_run}
 use Rattle.mmu_map.proofs.Whole.{length_fixed, length_mapped}
@@ -130,30 +132,54 @@ pub record KeepsFixed (m after : Map) : Type 0 where
   pub good : IsWhole after
   pub same : (a : ℕ) → IsFixedAt m a → use_in after (place_of a) ≡ use_in m (place_of a)
 
-keeps : (m : Map) (call : Call) → IsWhole m → CanMake m call → KeepsFixed m (after_call m call)
+pub keeps_nothing_new : (m : Map) → IsWhole m → KeepsFixed m m
+keeps_nothing_new m good = record { good = good; same = λ a is_fixed. refl }
+
+pub keeps_then : (m middle after : Map) → KeepsFixed m middle → KeepsFixed middle after
+    → KeepsFixed m after
+keeps_then m middle after first later = record {
+  good = later.good;
+  same = λ a is_fixed. later.same a (subst IsForGood (sym (first.same a is_fixed)) is_fixed)
+      ∙ first.same a is_fixed;
+}
+
+pub keeps : (m : Map) (call : Call) → IsWhole m → CanMake m call → KeepsFixed m (after_call m call)
 keeps m call good can = record {
   good = (steps m call good can).good;
   same = stays m call good can;
 }
 
+some_pages : (space : Space) → 1 ≤ pages_in space
+some_pages Data = omega arith
+some_pages Code = omega arith
+
 -- a run that was found is free at its address
-free_there : (m : Map) (space : Space) (page n : ℕ) → IsWhole m → 1 ≤ n
-    → AreFree (uses_in m space) page n → IsFreeRun m (address_of space page) n
-free_there m space page n good some free =
-    let sized : length (uses_in m space) ≡ pages_in space = good.many space in
-    record {
-      page_start = page_start space page;
-      free = subst (λ (p : Option Place). AreFreeFrom m p n)
-          (sym (place_of_address space page (omega (arith, sized, free.within)))) free;
-    }
+free_there : (m : Map) (space : Space) (page n : ℕ) → IsWhole m
+    → IsLowest (uses_in m space) n page → IsFreeRun m (address_of space page) n
+free_there m space page n good found = record {
+  page_start = page_start space page;
+  free = subst (λ (p : Option Place). AreFreeFrom m p n)
+      (sym (place_of_address space page (elim (cases_lt 0 n) [
+        | inl some ↦ omega (arith, good.many space, found.free.within)
+        | inr none ↦
+            omega (
+              arith,
+              some_pages space,
+              found.lowest 0 (record {
+                within = omega arith;
+                free = λ i from to. absurd (omega arith);
+              }),
+            )
+      ]))) found.free;
+}
 
 -- so do the answers of `map` and `unmap`
 pub map_keeps : (m : Map) (f n : ℕ) (space : Space) (answer : Result ℕ NoPages) → IsWhole m
-    → 1 ≤ n → IsMapAnswer m n space answer → KeepsFixed m (after_map m f n answer)
-map_keeps m f n space (Ok at) good some found =
+    → IsMapAnswer m n space answer → KeepsFixed m (after_map m f n answer)
+map_keeps m f n space (Ok at) good found =
     keeps m (MappedAt at f n) good (subst (λ (a : ℕ). IsFreeRun m a n) (sym found.1)
-    (free_there m space found.0 n good some found.2.free))
-map_keeps m f n space (Err e) good some found = record { good = good; same = λ a is. refl }
+    (free_there m space found.0 n good found.2))
+map_keeps m f n space (Err e) good found = keeps_nothing_new m good
 
 pub unmap_keeps : (m : Map) (at : ℕ) (answer : Result (Unit {0}) NotMapped) → IsWhole m
     → IsUnmapAnswer m at answer → KeepsFixed m (after_unmap m at answer)
@@ -163,7 +189,7 @@ unmap_keeps m at (Ok u) good found =
       many : (m : Map) (p : Option Place) (n : ℕ) → IsRunIn m p n → n ≡ run_length (use_in m p)
       many m None n run = absurd run
       many m (Some p) n run = sym (ap run_length run.1)
-unmap_keeps m at (Err e) good found = record { good = good; same = λ a is. refl }
+unmap_keeps m at (Err e) good found = keeps_nothing_new m good
 
 -- what stands in a run that is fixed
 fixed_use : (f n k : ℕ) → k < n → use_at (fixed_run f n) k ≡ Fixed (f + k)
