@@ -87,8 +87,8 @@ pub fn aimed_updates_open()
 
 /// The rows of a table obey its rules (`fits`). The layout by such rows lies in order in a flash of
 /// that size (`placed`), and has 1 to 16 slots (`some`, `few`); so does that of a flash by its table
-/// (`flash`). What `boot_run::aim` answers for a flash of bytes with that layout opens an update
-/// there, from the image of the application that runs (`opens`).
+/// (`flash`). What `boot_run::aim` answers for a flash with that layout opens an update there,
+/// from the image of the application that runs (`opens`).
 pub fn tables_open_updates()
     ensures fits { (bytes : List ℕ) (size : ℕ) (rows : List Shown)
         → table_of bytes size ≡ Ok rows → FitsFlash size rows }
@@ -101,7 +101,7 @@ pub fn tables_open_updates()
     ensures flash { (flash : List ℕ) (layout : Places) → layout_in flash ≡ Ok layout
         → IsPlaced layout (length flash) × (0 < length layout.slots) × (length layout.slots ≤ 16) }
     ensures opens { (flash : List ℕ) (layout : Places) (aim : Aim) (new : List ℕ)
-        → layout_in flash ≡ Ok layout → All (λ b. b < 256) flash → All (λ b. b < 256) new
+        → layout_in flash ≡ Ok layout → All (λ b. b < 256) new
         → IsAimed layout (images_in held layout flash) (entries_in layout flash) (length new) aim
         → (old : List ℕ) × IsOpening layout flash aim old new }
 {}
