@@ -11,3 +11,4 @@ pub mod WholeLemmas
 pub mod AimLemmas
 pub mod StoredLemmas
 pub mod ConfirmedLemmas
+pub mod KeptLemmas
