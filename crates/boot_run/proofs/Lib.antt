@@ -12,3 +12,4 @@ pub mod AimLemmas
 pub mod StoredLemmas
 pub mod ConfirmedLemmas
 pub mod KeptLemmas
+pub mod SettleLemmas

@@ -1,4 +1,4 @@
-use Rattle.boot_run.proofs.KeptLemmas.{bytes_stored, settled_boot, settled_confirm, settled_second}
+use Rattle.boot_run.proofs.SettleLemmas.{bytes_stored, settled_boot, settled_confirm, settled_second}
 use Rattle.boot_run.proofs.laws.whole_rewrites_settle_pairs.Goals as goal
 
 -- the entries are read back as they were written
