@@ -13,3 +13,4 @@ pub mod StoredLemmas
 pub mod ConfirmedLemmas
 pub mod KeptLemmas
 pub mod SettleLemmas
+pub mod ToldPairLemmas

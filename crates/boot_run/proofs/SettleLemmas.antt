@@ -1,37 +1,28 @@
 -- A boot and a confirmation of a flash that is a pair settle it, where all of their steps are made.
-use Rattle.std.proofs.Common.{◌==◌, ◌≡◌, ◌≢◌, ◌⊎◌, inl, inr, Bool, true, false, ℕ, zero, suc, ◌<◌, List, [], ◌∷◌, length, All, Option, Some, None, Result, Ok, Err, refl, sym, ap, ◌∙◌, subst, arith, if◌then◌else◌, lit<}
-use Rattle.std.proofs.lemmas.Bool.{cases_Bool}
-use Rattle.std.proofs.lemmas.Bool.Decides.{nat_tests}
+use Rattle.std.proofs.Common.{◌≡◌, ◌⊎◌, inl, inr, ℕ, ◌<◌, List, [], ◌∷◌, length, All, sym, ap, ◌∙◌, subst, arith, lit<}
 use Rattle.nor_device.specs.Flash.{after_steps}
-use Rattle.crash_images.specs.Crash.{LeftAfter}
-use Rattle.crash_images.proofs.LeftLaws.{left_end, left_none}
+use Rattle.crash_images.proofs.LeftLaws.{left_end}
 use Rattle.otadata.specs.declared.entry.Entry.{Entry}
-use Rattle.otadata.specs.Choice.{IsValid, active_of}
+use Rattle.otadata.specs.Choice.{active_of}
 use Rattle.otadata.specs.Entry.{IsStored}
-use Rattle.otadata.proofs.ChoiceLemmas.{active-first, active-lt, active-second}
 use Rattle.otadata.proofs.EntryLemmas.{entry_in-stored}
 use Rattle.partition_table.specs.declared.app.App.{App}
 use Rattle.partition_table.specs.Layout.{IsPlaced, Places}
-use Rattle.boot_select.specs.Choice.{named_of, slot_app}
-use Rattle.boot_select.specs.Settled.{sectors}
-use Rattle.boot_select.specs.Boots.{Images, entries_in, images_in, names}
+use Rattle.boot_select.specs.Choice.{named_of}
+use Rattle.boot_select.specs.Boots.{Images, entries_in, images_in}
 use Rattle.rollback.specs.declared.rewrite.Rewrite.{Rewrite}
-use Rattle.rollback.specs.declared.verdict.NoOtaApp.{NoOtaApp}
-use Rattle.rollback.specs.declared.verdict.RejectNo.{RejectNo}
-use Rattle.rollback.specs.declared.verdict.RejectNo.TheVariants as no
-use Rattle.rollback.specs.Rewrite.{changed, restated, with_state}
+use Rattle.rollback.specs.Rewrite.{restated}
 use Rattle.rollback.specs.Boot.{boot_writes}
-use Rattle.rollback.specs.Boots.{IsChance, IsSettled, after_boot, in_state}
-use Rattle.rollback.specs.Pair.{IsPair, RewritesOnly, SettlesOneOf, aborts_it, begins_it, is_quiet, other_of}
-use Rattle.rollback.specs.Verdict.{confirm_by, confirm_of, reject_as, reject_by, reject_of, started_after}
+use Rattle.rollback.specs.Boots.{IsSettled, after_boot, in_state}
+use Rattle.rollback.specs.Pair.{SettlesOneOf}
 use Rattle.rollback.proofs.EntriesLemmas.{boots_same, writes_same}
-use Rattle.rollback.proofs.LifeLemmas.{boot_settles, confirm_settles, pair_writes, rewrite_pair, second_boot_settles}
+use Rattle.rollback.proofs.LifeLemmas.{boot_settles, confirm_settles, second_boot_settles}
 use Rattle.image_verify.specs.Held.{held}
-use Rattle.boot_run.specs.Paired.{IsActiveIn, IsActivePair, IsFoundByChance, IsPairIn, IsSettledPair, IsWaiting, LeavesPair, Pairing}
-use Rattle.boot_run.specs.Rewriting.{AreShort, rewrite, rewrites}
-use Rattle.boot_run.specs.Verdict.{confirmation, just_one, one_of, rejection, writes_of}
+use Rattle.boot_run.specs.Paired.{IsActiveIn, IsPairIn, IsSettledPair, IsWaiting, Pairing}
+use Rattle.boot_run.specs.Rewriting.{rewrite, rewrites}
+use Rattle.boot_run.specs.Verdict.{confirmation, writes_of}
 use Rattle.boot_run.proofs.CrashLemmas.{label_short}
-use Rattle.boot_run.proofs.FrameLemmas.{left_images, left_other}
+use Rattle.boot_run.proofs.FrameLemmas.{left_images}
 use Rattle.boot_run.proofs.WritesLemmas.{boot_are, boot_short}
 use Rattle.boot_run.proofs.StoredLemmas.{boot_stored, entries_changed, entries_written}
 use Rattle.boot_run.proofs.KeptLemmas.{confirm_entry}

@@ -1,6 +1,7 @@
 -- A flash that is a pair of two applications, and what boots, confirmations and rejections leave
 -- of it.
-use Rattle.std.specs.Prelude.{◌≡◌, ◌⊎◌, ℕ, List, [], ◌∷◌, Option, Some, IfSome}
+use Rattle.std.specs.Prelude.{◌≡◌, ◌⊎◌, ℕ, List, [], ◌∷◌, Option, Some, IfSome, Result, OnOk}
+use Rattle.nor_device.specs.declared.nor.NorFault.{NorFault}
 use Rattle.otadata.specs.Choice.{active_of}
 use Rattle.partition_table.specs.declared.app.App.{App}
 use Rattle.partition_table.specs.Layout.{Places}
@@ -62,17 +63,23 @@ pub record IsWaiting (layout : Places) (flash : List ℕ) (sector : ℕ) : Type 
   pub active : IsActiveIn layout flash sector
   pub waits : (entries_in layout flash sector).state ≡ 1
 
--- where the device tells its bytes and they are a pair of this kind, what it has now is left of the
--- rewrites, as a pair
-abbrev pub KeepsPairs : Places → (List ℕ → Pairing → Type 0) → (List ℕ → List Rewrite)
-    → Option (List ℕ) → Option (List ℕ) → Type 0
-KeepsPairs layout Is writes old new =
-    IfSome old (λ flash. (pair : Pairing) → Is flash pair
-    → (left : List ℕ) × (new ≡ Some left) × LeavesPair layout flash (writes flash) pair left)
+-- what a boot leaves, all of whose rewrites are made: an update may begin, or the entry of the pair
+-- waits; where it waited before, an update may begin
+pub record BootSettles (layout : Places) (flash : List ℕ) (pair : Pairing) (left : List ℕ)
+    : Type 0 where
+  pub first : IsSettledPair layout left pair ⊎ IsWaiting layout left pair.sector
+  pub second : (entries_in layout flash pair.sector).state ≡ 1 → IsSettledPair layout left pair
 
--- where the device tells its bytes and they are a pair of this kind, this holds of what it has now
-abbrev pub SettlesPairs : (List ℕ → Pairing → Type 0) → (List ℕ → Pairing → List ℕ → Type 0)
-    → Option (List ℕ) → Option (List ℕ) → Type 0
-SettlesPairs Is Then old new =
+-- what a confirmation leaves: an update may begin
+abbrev pub ConfirmSettles : Places → List ℕ → Pairing → List ℕ → Type 0
+ConfirmSettles layout flash pair left = IsSettledPair layout left pair
+
+-- where the device tells its bytes and they are a pair of this kind, what it has now is left of the
+-- rewrites as a pair; where there is an answer, and no refusal, it has ended so
+abbrev pub KeepsPairs : {T : Type 0} → Places → (List ℕ → Pairing → Type 0)
+    → (List ℕ → List Rewrite) → (List ℕ → Pairing → List ℕ → Type 0) → Option (List ℕ)
+    → Option (List ℕ) → Result T NorFault → Type 0
+KeepsPairs layout Is writes Ends old new answer =
     IfSome old (λ flash. (pair : Pairing) → Is flash pair
-    → (left : List ℕ) × (new ≡ Some left) × Then flash pair left)
+    → (left : List ℕ) × (new ≡ Some left) × LeavesPair layout flash (writes flash) pair left
+    × OnOk answer (Ends flash pair left))
