@@ -1,3 +1,4 @@
 -- Base first. Crates above cite these lemmas.
+pub mod NumberLemmas
 pub mod GoodLemmas
 pub mod CourseLemmas
