@@ -2,3 +2,6 @@
 pub mod NumberLemmas
 pub mod GoodLemmas
 pub mod CourseLemmas
+pub mod BootLemmas
+pub mod PartLemmas
+pub mod ReadLemmas
