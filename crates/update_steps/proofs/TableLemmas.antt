@@ -1,18 +1,16 @@
 -- What a table says of the layout by it, and when an update opens on its flash.
-use Rattle.std.proofs.Common.{◌≡◌, ◌≤◌, ◌<◌, ℕ, zero, suc, ◌+◌, ◌%◌, Bool, true, false, List, [], ◌∷◌, length, drop, take, Option, Some, None, Result, Ok, Err, refl, sym, ap, subst, ◌∙◌, arith}
-use Rattle.std.specs.Prelude.{All, ◌==◌, if◌then◌else◌, nat_lt, replicate}
-use Rattle.std.specs.Option.{option_or}
-use Rattle.std.specs.List.{slice_get}
+use Rattle.std.proofs.Common.{◌≡◌, ◌≤◌, ◌<◌, ℕ, zero, suc, ◌+◌, ◌%◌, Bool, true, false, List, length, drop, take, Option, Some, None, Result, Ok, Err, refl, sym, ap, subst, arith}
+use Rattle.std.specs.Prelude.{All, ◌==◌, if◌then◌else◌, nat_lt}
 use Rattle.std.proofs.lemmas.Bool.Decides.{nat_tests}
 use Rattle.std.proofs.lemmas.List.Elements.{All-replicate}
 use Rattle.std.proofs.lemmas.Option.{slice_get_within}
 use Rattle.partition_table.specs.declared.row.Row.{Row}
 use Rattle.partition_table.specs.declared.bad.TableBad.{TableBad}
 use Rattle.partition_table.specs.declared.bad.TableBad.TheVariants.{SlotGap}
-use Rattle.partition_table.specs.Rules.{FitsFlash, rows_bad}
+use Rattle.partition_table.specs.Rules.{FitsFlash}
 use Rattle.partition_table.specs.Table.{end_bad, first_rows, rows_in, table_bad, table_of, unless}
-use Rattle.partition_table.specs.Layout.{IsPlaced, Places, is_gap, layout_by, layout_in, layout_of, row_with, slots_from, with_factory, with_otadata, with_slot, with_slots}
-use Rattle.partition_table.proofs.LayoutLemmas.{IsLayout, layout_of-means, placed}
+use Rattle.partition_table.specs.Layout.{IsPlaced, Places, is_gap, layout_by, layout_in, layout_of, row_with, slots_from, with_slot, with_slots}
+use Rattle.partition_table.proofs.LayoutLemmas.{layout_of-means, placed}
 use Rattle.partition_table.proofs.RuleLemmas.{fits, none_second}
 use Rattle.otadata.specs.declared.entry.Entry.{Entry}
 use Rattle.otadata.specs.declared.next.NextEntry.{NextEntry}
