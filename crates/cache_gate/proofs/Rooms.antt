@@ -11,7 +11,8 @@ use Rattle.bus_hub.specs.declared.reads.FetchNo.TheVariants as refusals
 use Rattle.bus_hub.specs.Room.{Kept}
 use Rattle.bus_hub.specs.Hub.{Hub, IsTold, IsBaseOf, opened, needs, byte_needs}
 use Rattle.bus_hub.specs.Told.{fetch_items, held}
-use Rattle.cache_gate.specs.Own.{Own, HasRoom, HasRoomIn, Keeps, Adds, Spends, HasFetched, HasStepped, base_of}
+use Rattle.cache_gate.specs.Own.{Own, HasRoom, HasRoomIn, Keeps, Adds, HasFetched, HasStepped, base_of}
+use Rattle.cache_gate.specs.Rounds.{Spends}
 use Rattle.cache_gate.proofs.Taken.{needs-append, byte_needs-append}
 
 module _ {S K : Type 0} where
