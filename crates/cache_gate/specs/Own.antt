@@ -1,5 +1,5 @@
 -- What a core is to its caller, and what its seat knows of it.
-use Rattle.std.specs.Prelude.{◌≡◌, ℕ, ◌+◌, ◌-◌, ◌*◌, ◌<◌, ◌≤◌, Bool, true, false, List, [], ◌∷◌, ◌++◌, length, Option, Some, None, IsNone, IsSome, Result, Ok, Err, ◌⊎◌}
+use Rattle.std.specs.Prelude.{◌≡◌, ℕ, ◌+◌, ◌<◌, ◌≤◌, Bool, false, List, [], ◌∷◌, ◌++◌, length, Option, Some, None, IsNone, IsSome, Result, Ok, Err, ◌⊎◌}
 use Rattle.core_state.specs.declared.registers.Record.{Record}
 use Rattle.core_state.specs.declared.registers.Regs.{Regs}
 use Rattle.core_state.specs.Registers.{masked, own_registers, reset}
@@ -7,12 +7,11 @@ use Rattle.core_state.specs.Sharing.{in_order}
 use Rattle.nor_device.specs.Nor.{IsPart}
 use Rattle.atomic_table.specs.Seated.{TableId}
 use Rattle.duo_machine.specs.declared.machine.Phase.{Phase}
-use Rattle.duo_machine.specs.declared.machine.Phase.TheVariants.{Resting, Running, Quiet}
+use Rattle.duo_machine.specs.declared.machine.Phase.TheVariants.{Running}
 use Rattle.duo_machine.specs.Machine.{first_machine}
 use Rattle.duo_machine.specs.Runs.{IsSafeRun, last_set}
 use Rattle.nor_device.specs.declared.step.Step.{Step}
 use Rattle.nor_device.specs.declared.nor.NorFault.{NorFault}
-use Rattle.nor_device.specs.Flash.{end_of}
 use Rattle.park_words.specs.declared.view.Entry.{Entry}
 use Rattle.park_words.specs.Views.{Seated}
 use Rattle.park_words.specs.Story.{CanBeMade, Saw, events_of, done_by}
