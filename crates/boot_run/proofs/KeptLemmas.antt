@@ -21,7 +21,7 @@ use Rattle.rollback.specs.Pair.{IsPair, RewritesOnly, aborts_it, begins_it, is_q
 use Rattle.rollback.specs.Verdict.{confirm_of, reject_as, reject_of, started_after}
 use Rattle.rollback.proofs.LifeLemmas.{pair_writes, rewrite_pair}
 use Rattle.image_verify.specs.Held.{held}
-use Rattle.boot_run.specs.Paired.{IsActiveIn, IsPairIn, LeavesPair, Pairing}
+use Rattle.boot_run.specs.Paired.{IsActiveIn, IsPairIn, KeepsPair, Pairing}
 use Rattle.boot_run.specs.Rewriting.{rewrite, rewrites}
 use Rattle.boot_run.specs.Verdict.{confirmation, just_one, one_of, rejection, writes_of}
 use Rattle.boot_run.proofs.CrashLemmas.{label_short}
@@ -130,7 +130,7 @@ module _ (layout : Places) (size : ℕ) (flash : List ℕ) (pair : Pairing)
   -- of rewrites of that entry alone
   kept : (writes : List Rewrite) (left : List ℕ) → RewritesEntry es pair.sector writes
       → LeftAfter flash (rewrites layout.otadata writes) left
-      → LeavesPair layout flash writes pair left
+      → KeepsPair layout flash writes pair left
   kept writes left (none nothing) after =
       let same : left ≡ flash = left_none flash left
       (subst (λ ws. LeftAfter flash (rewrites layout.otadata ws) left) nothing after) in
@@ -145,7 +145,7 @@ module _ (layout : Places) (size : ℕ) (flash : List ℕ) (pair : Pairing)
   -- of those of a boot
   pub kept_boot : (left : List ℕ)
       → LeftAfter flash (rewrites layout.otadata (boot_writes es)) left
-      → LeavesPair layout flash (boot_writes es) pair left
+      → KeepsPair layout flash (boot_writes es) pair left
   kept_boot left after = kept (boot_writes es) left
       (boot_entry es pair.sector
       (pair_writes layout (images_in held layout flash) es pair.sector pair.app pair.image pair.slot
@@ -154,7 +154,7 @@ module _ (layout : Places) (size : ℕ) (flash : List ℕ) (pair : Pairing)
   -- of that of a confirmation of its active entry
   pub kept_confirm : IsActiveIn layout flash pair.sector → (left : List ℕ)
       → LeftAfter flash (rewrites layout.otadata (writes_of (confirmation es))) left
-      → LeavesPair layout flash (writes_of (confirmation es)) pair left
+      → KeepsPair layout flash (writes_of (confirmation es)) pair left
   kept_confirm active left after = kept (writes_of (confirmation es)) left
       (by (confirm_entry es pair.sector active is.two)) after
     where
@@ -169,7 +169,7 @@ module _ (layout : Places) (size : ℕ) (flash : List ℕ) (pair : Pairing)
   -- and of that of a rejection
   pub kept_reject : IsActiveIn layout flash pair.sector → (whole : App → Bool) (left : List ℕ)
       → LeftAfter flash (rewrites layout.otadata (writes_of (rejection layout whole es))) left
-      → LeavesPair layout flash (writes_of (rejection layout whole es)) pair left
+      → KeepsPair layout flash (writes_of (rejection layout whole es)) pair left
   kept_reject active whole left after = kept (writes_of (rejection layout whole es)) left
       (by (reject_entry layout whole es pair.sector active is.two)) after
     where

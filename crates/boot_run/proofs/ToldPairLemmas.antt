@@ -12,7 +12,7 @@ use Rattle.boot_select.specs.Settled.{sectors}
 use Rattle.boot_select.specs.Boots.{entries_in}
 use Rattle.rollback.specs.declared.rewrite.Rewrite.{Rewrite}
 use Rattle.rollback.specs.Boot.{boot_writes}
-use Rattle.boot_run.specs.Paired.{BootSettles, ConfirmSettles, IsActivePair, IsPairIn, KeepsPairs, LeavesPair, Pairing}
+use Rattle.boot_run.specs.Paired.{BootSettles, ConfirmSettles, IsActivePair, IsPairIn, KeepsPairs, KeepsPair, Pairing}
 use Rattle.boot_run.specs.Read.{whole_in}
 use Rattle.boot_run.specs.Rewriting.{rewrites}
 use Rattle.boot_run.specs.Verdict.{confirmation, rejection, writes_of}
@@ -22,10 +22,10 @@ use Rattle.boot_run.proofs.KeptLemmas.{kept_boot, kept_confirm, kept_reject}
 use Rattle.boot_run.proofs.SettleLemmas.{settled_boot, settled_confirm, settled_second}
 
 -- whatever is left of these rewrites is left of a pair
-abbrev LeavesAll : Places → (List ℕ → Pairing → Type 0) → (List ℕ → List Rewrite) → Type 0
-LeavesAll layout Is writes = (flash left : List ℕ) (pair : Pairing) → Is flash pair
+abbrev KeepsAll : Places → (List ℕ → Pairing → Type 0) → (List ℕ → List Rewrite) → Type 0
+KeepsAll layout Is writes = (flash left : List ℕ) (pair : Pairing) → Is flash pair
     → LeftAfter flash (rewrites layout.otadata (writes flash)) left
-    → LeavesPair layout flash (writes flash) pair left
+    → KeepsPair layout flash (writes flash) pair left
 
 -- what holds behind all of the rewrites, where there is an answer
 ended : {T : Type 0} (P : List ℕ → Type 0) (left after : List ℕ) (new : Option (List ℕ))
@@ -40,7 +40,7 @@ ended P left after new (Ok x) is done holds =
 told_pairs : {T : Type 0} (layout : Places) (Is : List ℕ → Pairing → Type 0)
     (writes : List ℕ → List Rewrite) (Ends : List ℕ → Pairing → List ℕ → Type 0)
     (made : List Rewrite) (old new : Option (List ℕ)) (r : Result T NorFault)
-    → LeavesAll layout Is writes
+    → KeepsAll layout Is writes
     → IfSome old (λ flash. (pair : Pairing) → Is flash pair
     → Ends flash pair (after_steps flash (rewrites layout.otadata (writes flash))))
     → IfSome old (λ flash. made ≡ writes flash)
@@ -61,7 +61,7 @@ told_pairs layout Is writes Ends made (Some flash) new r all ends same left done
 -- of rewrites that were not begun, whatever refused them
 pub refused_pairs : (layout : Places) (Is : List ℕ → Pairing → Type 0)
     (writes : List ℕ → List Rewrite) (Ends : List ℕ → Pairing → List ℕ → Type 0)
-    (old new : Option (List ℕ)) → LeavesAll layout Is writes → new ≡ old
+    (old new : Option (List ℕ)) → KeepsAll layout Is writes → new ≡ old
     → KeepsPairs {T = Unit {0}} layout Is writes Ends old new (Err Failed)
 refused_pairs layout Is writes Ends None new all same = tt
 refused_pairs layout Is writes Ends (Some flash) new all same = λ pair is. (
@@ -95,19 +95,19 @@ read_writes layout writes e0 e1 (Some flash) by first second =
 
 -- what is left of a boot of a pair
 pub boot_leaves : (layout : Places) (size : ℕ) → IsPlaced layout size
-    → LeavesAll layout (IsPairIn layout) (λ flash. boot_writes (entries_in layout flash))
+    → KeepsAll layout (IsPairIn layout) (λ flash. boot_writes (entries_in layout flash))
 boot_leaves layout size placed flash left pair is = kept_boot layout size flash pair placed is left
 
 -- of a confirmation
 pub confirm_leaves : (layout : Places) (size : ℕ) → IsPlaced layout size
-    → LeavesAll layout (IsActivePair layout)
+    → KeepsAll layout (IsActivePair layout)
     (λ flash. writes_of (confirmation (entries_in layout flash)))
 confirm_leaves layout size placed flash left pair is =
     kept_confirm layout size flash pair placed is.is is.active left
 
 -- and of a rejection
 pub reject_leaves : (layout : Places) (size : ℕ) → IsPlaced layout size
-    → LeavesAll layout (IsActivePair layout)
+    → KeepsAll layout (IsActivePair layout)
     (λ flash. writes_of (rejection layout (whole_in layout flash) (entries_in layout flash)))
 reject_leaves layout size placed flash left pair is =
     kept_reject layout size flash pair placed is.is is.active (whole_in layout flash) left

@@ -48,8 +48,8 @@ pub record IsFoundByChance (layout : Places) (flash : List ℕ) (writes : List R
 
 -- what is left of rewrites of the flash is this pair, or the entry that is found in its sector
 -- matches by chance
-abbrev pub LeavesPair : Places → List ℕ → List Rewrite → Pairing → List ℕ → Type 0
-LeavesPair layout flash writes pair left =
+abbrev pub KeepsPair : Places → List ℕ → List Rewrite → Pairing → List ℕ → Type 0
+KeepsPair layout flash writes pair left =
     IsPairIn layout left pair ⊎ IsFoundByChance layout flash writes pair.sector left
 
 -- an update may begin on the flash, from one of the two applications
@@ -81,5 +81,5 @@ abbrev pub KeepsPairs : {T : Type 0} → Places → (List ℕ → Pairing → Ty
     → Option (List ℕ) → Result T NorFault → Type 0
 KeepsPairs layout Is writes Ends old new answer =
     IfSome old (λ flash. (pair : Pairing) → Is flash pair
-    → (left : List ℕ) × (new ≡ Some left) × LeavesPair layout flash (writes flash) pair left
+    → (left : List ℕ) × (new ≡ Some left) × KeepsPair layout flash (writes flash) pair left
     × OnOk answer (Ends flash pair left))

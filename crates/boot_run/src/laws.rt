@@ -20,7 +20,7 @@ ghost use Rattle.boot_run.specs.declared.aims.Aim.{Aim};
 ghost use Rattle.boot_run.specs.Aim.{Begins, IsAimed};
 ghost use Rattle.boot_run.specs.Crashed.{IsRestated, LeavesVerdict, LeavesVerdicts};
 ghost use Rattle.boot_run.specs.Verdict.{confirmation, rejection, writes_of};
-ghost use Rattle.boot_run.specs.Paired.{IsActivePair, IsPairIn, IsSettledPair, IsWaiting, LeavesPair, Pairing};
+ghost use Rattle.boot_run.specs.Paired.{IsActivePair, IsPairIn, IsSettledPair, IsWaiting, KeepsPair, Pairing};
 
 /// What a loss of power may leave, at any moment, of a rewrite that gives an entry another state:
 /// of it boots what boots where the entry is VALID, or is INVALID, or the entry that is found
@@ -80,21 +80,21 @@ pub fn aims_begin_updates()
 /// a confirmation (`confirm`) or a rejection (`reject`) while the pair's entry is the active one: it
 /// is that pair again, or the entry that is found in its sector matches by chance, seen from that
 /// rewrite.
-pub fn lost_rewrites_leave_pairs()
+pub fn lost_rewrites_keep_pairs()
     ensures boot { (layout : Places) (size : ℕ) (flash left : List ℕ) (pair : Pairing)
         → IsPlaced layout size → IsPairIn layout flash pair
         → LeftAfter flash (rewrites layout.otadata (boot_writes (entries_in layout flash))) left
-        → LeavesPair layout flash (boot_writes (entries_in layout flash)) pair left }
+        → KeepsPair layout flash (boot_writes (entries_in layout flash)) pair left }
     ensures confirm { (layout : Places) (size : ℕ) (flash left : List ℕ) (pair : Pairing)
         → IsPlaced layout size → IsActivePair layout flash pair
         → (let writes = writes_of (confirmation (entries_in layout flash)) in
         LeftAfter flash (rewrites layout.otadata writes) left
-        → LeavesPair layout flash writes pair left) }
+        → KeepsPair layout flash writes pair left) }
     ensures reject { (layout : Places) (size : ℕ) (flash left : List ℕ) (pair : Pairing)
         (whole : App → Bool) → IsPlaced layout size → IsActivePair layout flash pair
         → (let writes = writes_of (rejection layout whole (entries_in layout flash)) in
         LeftAfter flash (rewrites layout.otadata writes) left
-        → LeavesPair layout flash writes pair left) }
+        → KeepsPair layout flash writes pair left) }
 {}
 
 /// Once all rewrites of a boot of a pair are made, on a flash of bytes, it is settled, or its entry is

@@ -24,7 +24,7 @@ pub use booted::{BootFault, Booted};
 pub use booting::boot;
 pub use confirming::confirm;
 pub use laws::{
-    aims_begin_updates, lost_rewrites_leave_pairs, lost_rewrites_leave_verdicts,
+    aims_begin_updates, lost_rewrites_keep_pairs, lost_rewrites_leave_verdicts,
     rewrites_are_read_back, whole_rewrites_settle_pairs,
 };
 pub use previewing::{NoApp, preview};

@@ -1,5 +1,5 @@
 use Rattle.boot_run.proofs.KeptLemmas.{kept_boot, kept_confirm, kept_reject}
-use Rattle.boot_run.proofs.laws.lost_rewrites_leave_pairs.Goals as goal
+use Rattle.boot_run.proofs.laws.lost_rewrites_keep_pairs.Goals as goal
 
 -- each rewrite is of the pair's entry alone
 pub returns : goal.returns
