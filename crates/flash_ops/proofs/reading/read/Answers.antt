@@ -1,6 +1,6 @@
 use Rattle.std.proofs.Common.{◌≡◌, ◌+◌, ◌-◌, ◌≤◌, ◌<◌, ◌++◌, ◌∙◌, ap, sym, subst, refl, arith, ℕ, List, [], ◌∷◌, length, take, drop, length-take, length-drop, Result, Ok, Err}
 use Rattle.std.proofs.lemmas.List.{take_all}
-use Rattle.std.proofs.lemmas.Slice.{take-put_mid, length-put_mid}
+use Rattle.std.proofs.lemmas.Slice.{take-put_mid}
 use borrow.Rule.Slice.PartMut.{put_mid}
 use Rattle.nor_device.specs.declared.nor.NorFault.{NorFault}
 use Rattle.cache_gate.specs.Own.{Keeps}
@@ -15,7 +15,6 @@ use Rattle.flash_ops.proofs.reading.read.Goals as goal
 pub loop-done-init : goal.loop-done-init
 loop-done-init g c = let n = g.D.Nor in let d = g.K.Duty in record {
   within = omega arith;
-  many = refl;
   kept = keeps_same c.args.core;
   left = λ k. left_all k (read_moves (length c.args.out.now))
       (read_moves (length c.args.out.now - 0)) c.args.core
@@ -32,7 +31,7 @@ returns-in-Err-clause-ran g c = λ k.
     let inv = c.loop-done.invariant in
     let core = c.loop-done.core in
     let next = c.read_period-next.result.0 in
-    let len = length c.loop-done.out - c.loop-done.done in
+    let len = length c.args.out.now - c.loop-done.done in
     let piece = c.min.result in
     let whole = read_moves (length c.args.out.now) in
     let within = c.loop-done-test.true in
@@ -47,12 +46,38 @@ returns-in-Err-clause-ran g c = λ k.
 
 -- one piece more was read
 pub loop-done-preserved : goal.loop-done-preserved
-loop-done-preserved g c = ?
+loop-done-preserved g c =
+    let n = g.D.Nor in
+    let d = g.K.Duty in
+    let inv = c.loop-done.invariant in
+    let core = c.loop-done.core in
+    let next = c.read_period-next.result.0 in
+    let done = c.loop-done.done in
+    let out = c.loop-done.out in
+    let read = c.read_period-next.new.out in
+    let len = length c.args.out.now - done in
+    let piece = c.min.result in
+    let within = c.loop-done-test.true in
+    let long = c.loop-done.auto.out in
+    let made : (k : ℕ) → HasRun k (Ask ∷ []) (Ok tt) core next = λ k.
+    subst (λ (z : Result (Unit {0}) NorFault). HasRun k (Ask ∷ []) z core next) c.in_default.is
+    (c.read_period-next.ensures.ran k) in
+    let size : length read ≡ piece = ? in
+    let front : length (take done out) ≡ done =
+    let e = length-take done out in omega arith in
+    record {
+      within = omega (arith, c.min.ensures);
+      kept = keeps_then c.args.core core next inv.kept (asks_kept 0 1 core next (made 0));
+      left = λ k. left_then k (read_moves (length c.args.out.now)) (read_moves len) (Ask ∷ [])
+          (read_moves (length c.args.out.now - (piece + done))) c.args.core core next ?
+          (inv.left k) (made k);
+      bytes = ?;
+    }
 
 -- nothing is left
 pub returns-clause-ran : goal.returns-clause-ran
 returns-clause-ran g c = λ k.
-    let len = length c.loop-done.out - c.loop-done.done in
+    let len = length c.args.out.now - c.loop-done.done in
     let none : len ≡ 0 = omega (arith, c.loop-done-test.false) in
     left_none k (read_moves (length c.args.out.now)) (read_moves len) c.args.core
     c.loop-done.core (ap read_moves none ∙ read_nothing) (c.loop-done.invariant.left k)
