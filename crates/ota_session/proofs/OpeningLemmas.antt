@@ -1,5 +1,5 @@
 -- When a duty is good at its opening, as the bus asks where it is made.
-use Rattle.std.proofs.Common.{◌≡◌, ◌≢◌, ℕ, ◌<◌, List, [], length, take, drop, Option, Some, None, Ok, refl, subst}
+use Rattle.std.proofs.Common.{◌≡◌, ℕ, ◌<◌, List, length, take, drop, Ok, refl}
 use Rattle.std.specs.List.{All}
 use Rattle.partition_table.specs.declared.row.Row.{Row}
 use Rattle.partition_table.specs.Layout.{Places, layout_in, layout_of}
@@ -11,7 +11,7 @@ use Rattle.boot_run.specs.Aim.{IsAimed}
 use Rattle.flash_steps.specs.Parts.{open_addresses}
 use Rattle.update_steps.proofs.BesideLemmas.{beside_first}
 use Rattle.update_steps.proofs.TableLemmas.{table_opens}
-use Rattle.ota_session.specs.Course.{Course, Installs, IsFor, IsGood, Purpose, course_from, steps_for}
+use Rattle.ota_session.specs.Course.{Installs, IsFor, IsGood, Purpose, course_from, steps_for}
 use Rattle.ota_session.specs.GoodLaws.{good_of}
 
 -- the flash at the opening is good, where the table stands there and it is one for the purpose
