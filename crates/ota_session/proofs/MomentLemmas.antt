@@ -6,6 +6,7 @@ use Rattle.core_state.specs.Sharing.{in_order}
 use Rattle.nor_device.specs.declared.step.Step.{Step}
 use Rattle.nor_device.specs.declared.nor.StepEnd.{StepEnd}
 use Rattle.nor_device.specs.declared.nor.NorFault.{NorFault}
+use Rattle.crash_images.specs.Crash.{LeavesNow}
 use Rattle.partition_table.specs.declared.app.App.TheVariants.{Ota}
 use Rattle.partition_table.specs.declared.row.Row.{Row}
 use Rattle.partition_table.specs.Layout.{Places}
@@ -21,10 +22,11 @@ use Rattle.bus_hub.specs.declared.did.Base.{Base}
 use Rattle.bus_hub.specs.declared.did.Did.{Did}
 use Rattle.bus_hub.specs.declared.did.Did.TheVariants.{Opened, Closed, Broken, Fetched, Noted, Denied, Mapping, Unmapping, Missed, Masked}
 use Rattle.bus_hub.specs.declared.did.Running.{Running}
-use Rattle.bus_hub.specs.Hub.{Hub, begun}
+use Rattle.bus_hub.specs.Hub.{Hub, begun, step_of}
 use Rattle.bus_hub.specs.Log.{Item, State, change, made_whole, reached}
 use Rattle.bus_hub.specs.Moments.{MayBeLeft}
 use Rattle.bus_hub.specs.Shares.{made}
+use Rattle.bus_hub.proofs.Forgetting.{Still, free_base, free_reached}
 use Rattle.bus_hub.proofs.Logs.{Keeps}
 use Rattle.bus_hub.proofs.Prefixes.{good_at_all}
 use Rattle.ota_session.specs.Course.{Confirm, Course, Grants, Install, IsGood, LeavesBoot, Purpose, course_after, driven, part_of}
@@ -98,6 +100,12 @@ good_boots first course later flash same good = record {
   some = subst (λ (l : Places). boots_in held l flash ≢ None) same.layout good.some;
 }
 
+-- what a loss of power leaves of a flash and the step that runs
+now_left : (flash : List ℕ) (run : Option Running) (left : List ℕ)
+    → LeavesNow flash (step_of run) left → MayBeLeft flash run left
+now_left flash None left leaves = leaves
+now_left flash (Some run) left leaves = leaves
+
 module _ {D S : Type 0}
     (bytes : D → Option (List ℕ)) (off : D → Bool) (steps faults : D → ℕ) (setting : D → S)
     (may_end : S → ℕ → StepEnd → Type 0) (may_tear : S → ℕ → List ℕ → Step → List ℕ → Type 0)
@@ -121,6 +129,20 @@ module _ {D S : Type 0}
       (subst (λ (log : List Item). Keeps may_end may_tear may_refuse must_refuse part_of Grants
       course_after b.setting (begun b) log) split s.stood.ruled)
       s.good_first refl leaves)
+
+  -- the same of a log without a duty, and of what a loss of power leaves of a flash and a step
+  pub free_moment_boots : {L : Type 0} (free : L) (h : Hub D Course) (b : Base S Course)
+      (left right : List Did) (s : Stood h b left right) (before later : List Item)
+      (flash : List ℕ) → s.stood.log ≡ before ++ later
+      → LeavesNow (reached Still (begun (free_base free b)) before).flash
+      (step_of (reached Still (begun (free_base free b)) before).running) flash
+      → Boots b.flash b.duty flash
+  free_moment_boots {L} free h b left right s before later flash split leaves =
+      let there = reached course_after (begun b) before in
+      let same = free_reached free course_after (begun b) before in
+      moment_boots h b left right s before later flash split
+      (now_left there.flash there.running flash
+      (subst (λ (t : State L). LeavesNow t.flash (step_of t.running) flash) (sym same) leaves))
 
   -- where the driver's share has made all of the driver's steps, the flash of a bus is good by a duty
   -- that has none to come
