@@ -5,6 +5,8 @@ mod duty;
 mod next;
 mod part;
 mod task;
+#[cfg(test)]
+mod tests;
 
 pub use duty::UpdateDuty;
 pub use part::UpdatePart;
