@@ -1,5 +1,6 @@
 -- A whole update: its legs, and how far it came.
 use Rattle.std.specs.Prelude.{◌≡◌, ◌≢◌, ℕ, Bool, true, false, ◌&&◌, List, [], ◌∷◌, ◌++◌, Option, Some, None, Result, IfOk}
+use Rattle.std.specs.Borrow.{Bor}
 use Rattle.nor_device.specs.declared.nor.NorFault.{NorFault}
 use Rattle.nor_device.specs.Ram.{Ram}
 use Rattle.crash_images.specs.Cut.{CutDevice, restarted}
@@ -62,13 +63,13 @@ pub record EndsWith (legs : List Leg) (confirm : Option Kept) (dev : CutDevice R
   pub flash_is : t.flash.items ≡ dev.inner.bytes
 
 -- `confirms` tells which confirmations there may be, of a device, what was booted, and a rewrite
-module _ (confirms : CutDevice Ram → Booted → Rewrite → Ran → Type 0) (layout : Places)
+module _ (confirms : CutDevice Ram → Bor Booted → Bor Rewrite → Ran → Type 0) (layout : Places)
     (first : List ℕ) where
   -- behind the boot: a confirmation of what was booted
   pub record EndsConfirmed (legs : List Leg) (dev : CutDevice Ram) (t : Trial) : Type 0 where
-    pub at : Booted
-    pub write : Rewrite
-    pub may : MayConfirm layout first dev at write
+    pub at : Bor Booted
+    pub write : Bor Rewrite
+    pub may : MayConfirm layout first dev at.now write.now
     pub ran : Ran
     pub confirmed : confirms dev at write ran
     pub ends : EndsWith (legs ++ ran.leg ∷ []) (Some ran.journal) ran.dev t
@@ -93,7 +94,7 @@ module _ (confirms : CutDevice Ram → Booted → Rewrite → Ran → Type 0) (l
 
 -- an update on a device, as far as this: a session, a boot and a confirmation, and the first leg
 -- whose end isn't Done is the last. `writes` tells which sessions there may be.
-pub record IsTrial (writes : Ran → Type 0) (confirms : CutDevice Ram → Booted → Rewrite → Ran → Type 0)
+pub record IsTrial (writes : Ran → Type 0) (confirms : CutDevice Ram → Bor Booted → Bor Rewrite → Ran → Type 0)
     (layout : Places) (first : List ℕ) (upto : Upto) (t : Trial) : Type 0 where
   pub session : Ran
   pub written : writes session
