@@ -400,8 +400,15 @@ module _ (layout : Places) (first : List ℕ) (aim : Aim) (image : List ℕ)
   pub announced_writes : (now : List ℕ) → IsAnnounced layout first aim image 0 now
       → boot_writes (entries_in layout now) ≡ restated 1 y new ∷ []
   announced_writes now is =
-      at (behind_pair layout hs (images_in held layout now) es gs aim.running old y aim.slot new
-      image settled heralds opening.begins.apart is.behind.old_is is.behind.new_is is.behind.other)
+      elim (behind_pair layout hs (images_in held layout now) es gs aim.running old y aim.slot new
+      image settled heralds opening.begins.apart is.behind.old_is is.behind.new_is
+      is.behind.other) [
+        | inl chance ↦
+            absurd (chance.not_new heralds.matches (ap (λ (e : Entry). e.seq) here))
+        | inr pair ↦
+            waits (pair_writes layout (images_in held layout now) gs y aim.running old aim.slot
+            image pair)
+      ]
     where
       gs : ℕ → Entry
       gs = entries_in layout now
@@ -425,13 +432,6 @@ module _ (layout : Places) (first : List ℕ) (aim : Aim) (image : List ℕ)
       waits (aborts_it pending made) = absurd (omega (arith, pending, state_is))
       waits (begins_it fresh active made) =
           made ∙ ap (λ (e : Entry). restated 1 y e ∷ []) here
-
-      at : _ → boot_writes gs ≡ restated 1 y new ∷ []
-      at (inl chance) =
-          absurd (chance.not_new heralds.matches (ap (λ (e : Entry). e.seq) here))
-      at (inr pair) =
-          waits (pair_writes layout (images_in held layout now) gs y aim.running old aim.slot image
-          pair)
 
   -- the rewrite that a boot makes, and that of a confirmation behind it
   abbrev pub waiting : Rewrite
