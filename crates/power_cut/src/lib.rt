@@ -3,6 +3,7 @@
 #![tactic(auto)]
 
 mod booting;
+mod closing;
 mod legs;
 mod outcome;
 mod run;
