@@ -4,7 +4,7 @@ use Rattle.std.specs.Int.{IsBitSet}
 use Rattle.image_layout.specs.declared.space.Space.{Space}
 use Rattle.image_layout.specs.declared.space.Space.TheVariants.{Data, Code}
 use Rattle.image_layout.specs.Space.{is_data}
-use Rattle.mmu_map.specs.Map.{Map, translated}
+use Rattle.mmu_map.specs.Map.{Map, translated, IsFixedAt}
 
 -- the address is there, and lies in a flash of this size
 abbrev pub IsInFlash : Option ℕ → ℕ → Type 0
@@ -20,6 +20,11 @@ pub record IsUnmapped (m : Map) (size at len : ℕ) : Type 0 where
   pub place : ℕ
   pub within : place < len
   pub beyond : ¬ IsInFlash (translated m (at + place)) size
+
+-- each address of the range lies in a page that was fixed, and leads into a flash of this size
+pub record IsFixed (m : Map) (size at len : ℕ) : Type 0 where
+  pub fixed : (i : ℕ) → i < len → IsFixedAt m (at + i)
+  pub inside : (i : ℕ) → i < len → IsInFlash (translated m (at + i)) size
 
 -- the byte is that of the flash at this address
 abbrev pub ShowsByte : Option ℕ → List ℕ → ℕ → Type 0

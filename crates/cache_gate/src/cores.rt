@@ -7,10 +7,10 @@ ghost use Rattle.bus_hub.specs.declared.did.Did.{Did};
 ghost use Rattle.bus_hub.specs.declared.did.Did.TheVariants.{Noted, Mapping, Unmapping};
 ghost use Rattle.bus_hub.specs.declared.entry.Act.TheVariants.{Set};
 ghost use Rattle.bus_hub.specs.declared.reads.FetchNo.TheVariants as refusals;
-ghost use Rattle.bus_hub.specs.Fetch.{IsServed};
+ghost use Rattle.bus_hub.specs.Fetch.{IsServed, IsFixed};
 ghost use Rattle.bus_hub.specs.Log.{IsNote};
 ghost use Rattle.bus_hub.specs.Told.{asked};
-ghost use Rattle.cache_gate.specs.Own.{HasRoom, IsInside, MayMake, Keeps, Adds, HasFetched, HasStepped, IsPartOf, set_to};
+ghost use Rattle.cache_gate.specs.Own.{OnBase, HasRoom, IsInside, MayMake, Keeps, Adds, HasFetched, HasStepped, IsPartOf, set_to};
 
 use crate::{steps, turns, waits};
 use bus_hub::{Act, Bus, Duty, FetchNo};
@@ -181,6 +181,8 @@ impl<'w, D: Crash, K: Duty> Core<'w, D, K> {
         ensures adds { HasFetched k at len result self.old self.new }
         ensures masked { result ≢ Err refusals.Unmapped
             → result ≡ Err refusals.Masked ↔ (¬ IsServed self.old.regs.mask at) }
+        ensures fixed { OnBase self.old.base (λ b. IsFixed b.map (length b.flash) at len)
+            → result ≢ Err refusals.Unmapped }
     {
         turns::fetch(rt, self.words, &mut self.seat, k, at, len)
     }

@@ -1,0 +1,7 @@
+-- Base first. Crates above cite these lemmas.
+pub mod NumberLemmas
+pub mod ImageLemmas
+pub mod PartLemmas
+pub mod ViewLemmas
+pub mod BootLemmas
+pub mod ReadLemmas
