@@ -37,12 +37,12 @@ use Rattle.power_cut.specs.Device.{BrokeAt, HasEnd, IsRan, IsReady, IsUnbroken, 
 use Rattle.power_cut.specs.Whole.{HasBooted, IsBootLeg, boot_steps, end_by, is_done, started_by}
 
 -- a step ends by the choice alone
-by_choice : (set : CutSetting (Unit {0})) (n : ℕ) (end : StepEnd) → MayEnd set n end
+pub by_choice : (set : CutSetting (Unit {0})) (n : ℕ) (end : StepEnd) → MayEnd set n end
     → EndsBy set.cut set.fail n end
 by_choice set n end may =
     (chosen_ends RamMayEnd RamMayRefuse (λ s m e is. is) (λ s m why no. no) set n end).0 may
 
-refused_by_choice : (set : CutSetting (Unit {0})) (n : ℕ) (why : NorFault) → MayRefuse set n why
+pub refused_by_choice : (set : CutSetting (Unit {0})) (n : ℕ) (why : NorFault) → MayRefuse set n why
     → EndsBy set.cut set.fail n (nor.end_by why)
 refused_by_choice set n why may =
     (chosen_refuses RamMayEnd RamMayRefuse (λ s m e is. is) (λ s m w no. no) set n why).0 may

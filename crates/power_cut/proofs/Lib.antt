@@ -2,3 +2,4 @@
 pub mod BehindLemmas
 pub mod EndsLemmas
 pub mod WholeLemmas
+pub mod LogLemmas

@@ -2,6 +2,7 @@
 //! the flash that is left.
 #![tactic(auto)]
 
+mod behind;
 mod booting;
 mod closing;
 mod legs;
@@ -9,6 +10,7 @@ mod outcome;
 mod run;
 mod runner;
 
+pub use behind::leg_behind;
 pub use legs::{Leg, LegEnd, Ran, Upto};
 pub use outcome::Trial;
 pub use run::trial;
