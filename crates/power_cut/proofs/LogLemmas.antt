@@ -138,19 +138,39 @@ module _ {K P : Type 0} (part : K → ℕ → P) (grants : P → Step → Type 0
   refused_here set s c (Missed at len) refusal rule = absurd refusal
   refused_here set s c (Masked at len) refusal rule = absurd refusal
 
-  -- so the last step is a chosen one, where a refusal stands anywhere in the log
-  refused_log : (set : Choice) (s : State K) (before later : List Item) (c : ℕ) (did : Did)
-      → IsRefusal did → IsRuled set s (before ++ item c did ∷ later)
-      → Bad set (reached after s (before ++ item c did ∷ later)).steps
-  refused_log set s before later c did refusal ruled =
-      let mid : State K = reached after s before in
-      let back = ruled-back MayEnd MayTear MayRefuse MustRefuse part grants after set s before
-      (item c did ∷ later) ruled in
-      let here = refused_here set mid c did refusal back.1 in
-      let end = stopped_log set mid.steps (change after mid c did) later here.0 back.2 here.1 in
-      subst (λ (t : State K). Bad set t.steps)
-      (sym (reached-append after s before (item c did ∷ later)))
-      (subst (Bad set) (sym end.steps) here.0)
+  -- so the last step is a chosen one, where a refusal stands anywhere in what one core did
+  share_in : (set : Choice) (c : ℕ) (did : Did) (back : List Did) (log : List Item)
+      (front : List Did) (s : State K) → IsRefusal did → IsRuled set s log
+      → of_core c log ≡ front ++ did ∷ back → Bad set (reached after s log).steps
+  share_in set c did back [] [] s refusal ruled is = absurd cc
+  share_in set c did back [] (d ∷ front) s refusal ruled is = absurd cc
+  share_in set c did back (x ∷ log) front s refusal ruled is =
+      by (cases_Bool (x.core == c))
+      (λ rest split. share_in set c did back log rest (change after s x.core x.did) refusal
+      ruled.2 split)
+    where
+      Later : Type 0
+      Later = (rest : List Did) → of_core c log ≡ rest ++ did ∷ back
+          → Bad set (reached after (change after s x.core x.did) log).steps
+
+      here : (front : List Did) → x.did ∷ of_core c log ≡ front ++ did ∷ back → Later
+          → Bad set (reached after s (x ∷ log)).steps
+      here [] is later =
+          let same : x.did ≡ did = cc in
+          let refused = refused_here set s x.core x.did (subst IsRefusal (sym same) refusal)
+          ruled.1 in
+          let end = stopped_log set s.steps (change after s x.core x.did) log refused.0 ruled.2
+          refused.1 in
+          subst (Bad set) (sym end.steps) refused.0
+      here (d ∷ front) is later = later front cc
+
+      by : ((x.core == c) ≡ true) ⊎ ((x.core == c) ≡ false) → Later
+          → Bad set (reached after s (x ∷ log)).steps
+      by (inl p) later = here front
+          (subst (λ t. cond t (x.did ∷ of_core c log) (of_core c log) ≡ front ++ did ∷ back)
+          p is) later
+      by (inr p) later = later front
+          (subst (λ t. cond t (x.did ∷ of_core c log) (of_core c log) ≡ front ++ did ∷ back) p is)
 
   -- ---- of a bus
 
@@ -175,31 +195,5 @@ module _ {K P : Type 0} (part : K → ℕ → P) (grants : P → Step → Type 0
         → Bad b.setting h.dev.steps
     share_refused c share front back did share_is split refusal =
         subst (Bad b.setting) steps_end
-        (at stands.stood.log front (begun b) stands.stood.ruled (share_is ∙ split))
-      where
-        at : (log : List Item) (front : List Did) (s : State K) → IsRuled b.setting s log
-            → of_core c log ≡ front ++ did ∷ back → Bad b.setting (reached after s log).steps
-        at [] [] s ruled is = absurd cc
-        at [] (d ∷ front) s ruled is = absurd cc
-        at (x ∷ log) front s ruled is = by (cases_Bool (x.core == c))
-          where
-            here : (front : List Did) → x.did ∷ of_core c log ≡ front ++ did ∷ back
-                → Bad b.setting (reached after s (x ∷ log)).steps
-            here [] is =
-                let same : x.did ≡ did = cc in
-                let refused = refused_here b.setting s x.core x.did
-                (subst IsRefusal (sym same) refusal) ruled.1 in
-                let end = stopped_log b.setting s.steps (change after s x.core x.did) log refused.0
-                ruled.2 refused.1 in
-                subst (Bad b.setting) (sym end.steps) refused.0
-            here (d ∷ front) is =
-                at log front (change after s x.core x.did) ruled.2 (cc)
-
-            by : ((x.core == c) ≡ true) ⊎ ((x.core == c) ≡ false)
-                → Bad b.setting (reached after s (x ∷ log)).steps
-            by (inl p) = here front
-                (subst (λ t. cond t (x.did ∷ of_core c log) (of_core c log) ≡ front ++ did ∷ back)
-                p is)
-            by (inr p) = at log front (change after s x.core x.did) ruled.2
-                (subst (λ t. cond t (x.did ∷ of_core c log) (of_core c log) ≡ front ++ did ∷ back)
-                p is)
+        (share_in b.setting c did back stands.stood.log front (begun b) refusal
+        stands.stood.ruled (share_is ∙ split))
