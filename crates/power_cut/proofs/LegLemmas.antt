@@ -130,32 +130,32 @@ module _ {K P : Type 0} (part : K → ℕ → P) (grants : P → Step → Type 0
         → IsLeg drives works driver pages holds old new h.journal
     leg_of drives works driver pages holds old new h b map journal duty left right drove worked
         opening mapped stands idle same legal is means drives_so works_so = record {
-      base = free_base any_duty b;
-      map = h.map;
-      opening = record {
-        flash_is = opening.flash_is;
-        map_is = refl;
-        duty_is = refl;
-        left_is = sym stands.left_room;
-        right_is = sym stands.right_room;
-        setting_is = opening.setting_is;
-        steps_are = opening.steps_are;
-        faults_are = opening.faults_are;
-        off_is = opening.off_is;
-      };
-      mapped = mapped;
-      left = left;
-      right = right;
-      drove = drove;
-      worked = worked;
-      driver_share = drives_so;
-      worker_share = works_so;
-      back = h.dev;
-      same = same;
-      stands = behind;
-      legal = legal;
-      moments = moments;
-    }
+          base = free_base any_duty b;
+          map = h.map;
+          opening = record {
+            flash_is = opening.flash_is;
+            map_is = refl;
+            duty_is = refl;
+            left_is = sym stands.left_room;
+            right_is = sym stands.right_room;
+            setting_is = opening.setting_is;
+            steps_are = opening.steps_are;
+            faults_are = opening.faults_are;
+            off_is = opening.off_is;
+          };
+          mapped = mapped;
+          left = left;
+          right = right;
+          drove = drove;
+          worked = worked;
+          driver_share = drives_so;
+          worker_share = works_so;
+          back = h.dev;
+          same = same;
+          stands = behind;
+          legal = legal;
+          moments = moments;
+        }
       where
         behind : LegStands (bus_behind h.dev h.map h.journal) (free_base any_duty b) left right
         behind = record {
@@ -221,29 +221,29 @@ module _ (drives works : Result (Unit {0}) NorFault → List Did → Type 0) (dr
 
 module _ (drives works : Result (Unit {0}) NorFault → List Did → Type 0) (driver : ℕ)
     (pages : Map → Type 0) (layout : Places) (others : ℕ → Bool) (apart : IsApart layout others)
-    where
-  -- a session has what a trial needs of it
-  pub session_keeps : (aim : Aim) (image : List ℕ) (old : CutDevice Ram) (ran : Ran)
-      → IsSessionLeg drives works driver pages layout others aim image old ran
-      → KeepsSession layout aim image old ran
-  session_keeps aim image old ran is = record {
-    ran_is = is.ran_is;
-    others = others;
-    apart = apart;
-    holds = holds_behind drives works driver pages
-        (HoldsUpdate layout old.inner.bytes aim image others) old ran.dev ran.journal is.leg;
-    done = is.done;
-  }
+  where
+    -- a session has what a trial needs of it
+    pub session_keeps : (aim : Aim) (image : List ℕ) (old : CutDevice Ram) (ran : Ran)
+        → IsSessionLeg drives works driver pages layout others aim image old ran
+        → KeepsSession layout aim image old ran
+    session_keeps aim image old ran is = record {
+      ran_is = is.ran_is;
+      others = others;
+      apart = apart;
+      holds = holds_behind drives works driver pages
+          (HoldsUpdate layout old.inner.bytes aim image others) old ran.dev ran.journal is.leg;
+      done = is.done;
+    }
 
-  -- and so has a confirmation
-  pub confirm_keeps : (write : Rewrite) (old : CutDevice Ram) (ran : Ran)
-      → IsConfirmLeg drives works driver pages layout others write old ran
-      → KeepsConfirm layout write old ran
-  confirm_keeps write old ran is = record {
-    ran_is = is.ran_is;
-    others = others;
-    apart = apart;
-    holds = holds_behind drives works driver pages
-        (HoldsRewrite layout old.inner.bytes write others) old ran.dev ran.journal is.leg;
-    done = is.done;
-  }
+    -- and so has a confirmation
+    pub confirm_keeps : (write : Rewrite) (old : CutDevice Ram) (ran : Ran)
+        → IsConfirmLeg drives works driver pages layout others write old ran
+        → KeepsConfirm layout write old ran
+    confirm_keeps write old ran is = record {
+      ran_is = is.ran_is;
+      others = others;
+      apart = apart;
+      holds = holds_behind drives works driver pages
+          (HoldsRewrite layout old.inner.bytes write others) old ran.dev ran.journal is.leg;
+      done = is.done;
+    }
