@@ -1,0 +1,6 @@
+-- Base first. Crates above cite these lemmas.
+pub mod BehindLemmas
+pub mod EndsLemmas
+pub mod WholeLemmas
+pub mod LogLemmas
+pub mod LegLemmas

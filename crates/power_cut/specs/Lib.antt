@@ -1,0 +1,9 @@
+-- In reading order: the device, how it refuses, a leg of two cores, what holds of the flash meanwhile, what a runner
+-- has to keep, a whole update, and what stands behind its data.
+pub mod Device
+pub mod Refused
+pub mod Leg
+pub mod Update
+pub mod Kept
+pub mod Whole
+pub mod Behind
