@@ -38,7 +38,8 @@ impl Pace for Trace {
             Point::WorkerAct(_) => 0,
             Point::WorkerActDone(_) => 0,
         };
-        self.digits.set(self.digits.get().saturating_mul(10).saturating_add(digit));
+        self.digits
+            .set(self.digits.get().saturating_mul(10).saturating_add(digit));
     }
 }
 
@@ -54,11 +55,13 @@ fn filled(alloc: Global, byte: u8, size: usize) -> Result<Vec<u8>, AllocError>
 fn gates(
     alloc: Global,
     room: Room,
-) -> Option<(
-    Gates<RamNor, AnyDuty>,
-    Ended<RamNor, AnyDuty>,
-    Ended<RamNor, AnyDuty>,
-)>
+) -> Option<
+    (
+        Gates<RamNor, AnyDuty>,
+        Ended<RamNor, AnyDuty>,
+        Ended<RamNor, AnyDuty>,
+    ),
+>
     ensures left { IfSome result
         (λ r. IsReadyFor r.0 0 1 room.entries room.bytes 1048576 r.1) }
     ensures look { IfSome result (λ r. CanLook r.1.base r.1.regs (Some 0x3F400000)) }
@@ -167,8 +170,18 @@ fn step_of(erase: bool, at: u32, len: u32) -> [Entry; 2] {
     let open = Act::Open { erase, at, len };
     let close = Act::Close { end: StepEnd::Done };
     [
-        Entry { core: 0, k: 0, regs, act: open },
-        Entry { core: 0, k: 0, regs, act: close },
+        Entry {
+            core: 0,
+            k: 0,
+            regs,
+            act: open,
+        },
+        Entry {
+            core: 0,
+            k: 0,
+            regs,
+            act: close,
+        },
     ]
 }
 
@@ -192,10 +205,22 @@ fn a_driver_beside_a_resting_core(rt: HostRuntime) -> Result<(), Fail> {
     let (journal, points, ops) = driven(&rt, rt.alloc(), &mut out).ok_or("driven")?;
     let entries = journal.entries();
     assert_eq!(rt; entries.len(), 8, "entries");
-    assert_eq!(rt; &entries[0..2], step_of(true, 0x10000, 4096).as_slice(), "the erase");
+    assert_eq!(rt;
+        &entries[0..2],
+        step_of(true, 0x10000, 4096).as_slice(),
+        "the erase"
+    );
     assert_eq!(rt; entries[2], look_at(0), "a look");
-    assert_eq!(rt; &entries[3..5], step_of(false, 0x100FE, 2).as_slice(), "up to the page's end");
-    assert_eq!(rt; &entries[5..7], step_of(false, 0x10100, 1).as_slice(), "and behind it");
+    assert_eq!(rt;
+        &entries[3..5],
+        step_of(false, 0x100FE, 2).as_slice(),
+        "up to the page's end"
+    );
+    assert_eq!(rt;
+        &entries[5..7],
+        step_of(false, 0x10100, 1).as_slice(),
+        "and behind it"
+    );
     assert_eq!(rt; entries[7], look_at(4), "a look");
     assert_eq!(rt; out, [0xFF, 0x12, 0x34, 0x56], "read back");
     assert_eq!(rt; (points, ops), (1627, 2), "points and periods");
