@@ -77,9 +77,17 @@ module _ (k : ℕ) (regs : Regs) where
   stops_later why [] ns a b f g =
       subst (λ (x : List Did). Stops k regs why ns (x ++ b)) (sym f) g
   stops_later why (Make step ∷ ms) ns a b f g = inr (inr (
-    f.0 ++ b, ap (λ (x : List Did). x ++ b) f.1, stops_later why ms ns f.0 b f.2 g))
+    f.0 ++ b,
+    ap (λ (x : List Did). x ++ b) f.1,
+    stops_later why ms ns f.0 b f.2 g,
+  ))
   stops_later why (Look at ∷ ms) ns a b f g = inr (
-    f.0, f.1 ++ b, f.2, ap (λ (x : List Did). x ++ b) f.3, stops_later why ms ns f.1 b f.4 g)
+    f.0,
+    f.1 ++ b,
+    f.2,
+    ap (λ (x : List Did). x ++ b) f.3,
+    stops_later why ms ns f.1 b f.4 g,
+  )
   stops_later why (Ask ∷ ms) ns a b f g = inr (stops_later why ms ns a b f g)
 
   pub stops_before : (why : NorFault) (ms ns : List Move) (a : List Did) → Stops k regs why ms a
@@ -121,9 +129,11 @@ module _ (k : ℕ) (regs : Regs) where
   made_stops why open_step (Make step ∷ ms) items (inr (inl s)) =
       (0, ap (λ (x : List Did). made_from open_step x) s.1)
   made_stops why open_step (Make step ∷ ms) items (inr (inr s)) =
-      let later = made_stops why None ms s.0 s.2 in
-      (suc later.0, ap (λ (x : List Did). made_from open_step x) s.1
-      ∙ ap (λ (l : List Step). step ∷ l) later.1)
+      let later = made_stops why None ms s.0 s.2 in (
+        suc later.0,
+        ap (λ (x : List Did). made_from open_step x) s.1
+            ∙ ap (λ (l : List Step). step ∷ l) later.1,
+      )
   made_stops why open_step (Look at ∷ ms) items (inl is) =
       (0, ap (λ (x : List Did). made_from open_step x) is)
   made_stops why open_step (Look at ∷ ms) items (inr s) =
