@@ -13,3 +13,4 @@ pub mod FlashLog
 pub mod Facts
 pub mod Stops
 pub mod Knowing
+pub mod Fixing
