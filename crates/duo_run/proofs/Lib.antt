@@ -1,5 +1,6 @@
 pub mod StepsLemmas
 pub mod ShareLemmas
+pub mod OpenLemmas
 mod AskLemmas
 mod ActLemmas
 mod WorkLemmas

@@ -19,7 +19,7 @@ use Rattle.duo_run.specs.Works.{CanAct, CanWork, HasActed, HasWorked, HasWorkedF
 use Rattle.duo_run.proofs.StepsLemmas.{regs_by-append}
 use Rattle.duo_run.proofs.ShareLemmas.{ended_regs, left_regs}
 use Rattle.duo_run.proofs.AskLemmas.{can_first, can_rest}
-use Rattle.duo_run.proofs.ActLemmas.{adds_keeps, adds_set, adds_then}
+use Rattle.duo_run.proofs.ActLemmas.{adds_keeps, adds_set, adds_then, keeps_adds}
 
 module _ {B : Type 0} where
   -- a core that served its gate behind an action
@@ -163,3 +163,26 @@ module _ {S K P : Type 0} (part : K → ℕ → P) (grants : P → Step → Type
       at.on (Ok tt) o'
       (subst (λ (s : List Action). HasWorkedFrom rows (i + 1) s (Ok tt) o' o') (sym none)
       (worked_none rows (i + 1) o'))
+
+  -- a core that only saw more of the run
+  pub can_kept : (rows : List Row) (script : List Action) (o a : Own (Base S K) Did) → Keeps o a
+      → CanWork part grants moved rows script o → CanWork part grants moved rows script a
+  can_kept rows script o a keeps can =
+      subst (λ (z : Own (Base S K) Did). CanWork part grants moved rows script z) (sym keeps.is)
+      (record { mask = can.mask; base = can.base; room = can.room; may = can.may })
+
+-- the work, from rest to rest
+pub worked_kept : {B : Type 0} (rows : List Row) (k : ℕ) (script : List Action)
+    (r : Result (Unit {0}) NorFault) (o a b c : Own B Did) → Keeps o a
+    → HasWorkedFrom rows k script r a b → Keeps b c → HasWorkedFrom rows k script r o c
+worked_kept rows k script r o a b c first x last =
+    let own : a.regs ≡ o.regs = ap (λ (w : Own _ Did). w.regs) first.is in
+    let end_regs : Regs = regs_by o.regs x.items in
+    record {
+      items = x.items;
+      adds = adds_keeps x.items (set_to o end_regs) b c
+          (keeps_adds x.items (set_to o end_regs) (set_to a end_regs) b
+          (record { is = ap (λ (w : Own _ Did). set_to w end_regs) first.is; works = first.works })
+          (subst (λ (w : Regs). Adds x.items (set_to a (regs_by w x.items)) b) own x.adds)) last;
+      share = subst (λ (w : Regs). ShareFrom rows k w script r x.items) own x.share;
+    }

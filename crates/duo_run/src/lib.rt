@@ -2,5 +2,10 @@
 #![tactic(auto)]
 
 mod actions;
+mod laws;
 mod room;
+#[cfg(test)]
+mod tests;
 mod worker;
+
+pub use laws::laws_of_workers;

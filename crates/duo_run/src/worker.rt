@@ -6,7 +6,7 @@ ghost use Rattle.duo_run.specs.Works.{CanWork, HasWorked};
 
 use crate::actions::act;
 use bus_hub::Duty;
-use cache_gate::Core;
+use cache_gate::{Core, Ended, Gates};
 use core_script::Script;
 use crash_images::Crash;
 use flash_ops::{Pace, Point, StepNo};
@@ -40,4 +40,22 @@ pub(crate) fn work<'w, R: Wait, D: Crash, K: Duty, P: Pace>(
         core.serve_gate(rt);
     }
     (core, Ok(()))
+}
+
+/// The same from rest to rest, at the gates.
+pub(crate) fn run_worker<R: Wait, D: Crash, K: Duty, P: Pace>(
+    rt: &R,
+    gates: &Gates<D, K>,
+    ended: Ended<D, K>,
+    script: &Script,
+    table: &Table,
+    pace: &P,
+) -> (Ended<D, K>, Result<(), StepNo>)
+    requires table { ended.table ≡ gates.now }
+    requires can { CanWork K.part K.grants K.moved table.now script.now ended }
+    ensures { HasWorked table.now script.now (fault_of result.1) ended result.0 }
+{
+    let core = gates.core(ended).start(rt);
+    let (core, end) = work(rt, core, script, table, pace);
+    (core.rest(rt).ended(), end)
 }
