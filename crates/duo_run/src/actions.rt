@@ -123,7 +123,9 @@ fn unmapped(at: u32, answer: Result<(), NotMapped>) -> Act
 {
     match answer {
         Ok(()) => Act::Unmapped { at },
-        Err(_) => Act::Refused { why: Why::NotMapped },
+        Err(_) => Act::Refused {
+            why: Why::NotMapped,
+        },
     }
 }
 
