@@ -24,6 +24,7 @@ const SIZE: usize = 1_048_576;
 const DATA: u32 = 0x3F40_0000;
 
 /// Counts the calls that come in order: before and behind the first action, and so on.
+#[derive(Drop)]
 struct Counts {
     calls: Cell<u32>,
 }
