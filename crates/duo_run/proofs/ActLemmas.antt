@@ -174,7 +174,8 @@ module _ {B : Type 0} where
 -- ---- writes and erases
 
 -- what is noted of a refusal
-barred_act : (refusal : PartNo) → end_act (Err (barred_by refusal)) ≡ Ok (acts.Refused (why_of refusal))
+barred_act : (refusal : PartNo)
+    → end_act (Err (barred_by refusal)) ≡ Ok (acts.Refused (why_of refusal))
 barred_act part.NoLabel = refl
 barred_act part.Dangerous = refl
 barred_act part.ReadOnly = refl
@@ -183,7 +184,8 @@ barred_act part.Unaligned = refl
 barred_act part.Range = refl
 
 -- a write or an erase of a partition and its note, by whether the device refused
-abbrev Wrote : ℕ → Regs → Result Row PartNo → List Step → Result (Unit {0}) NorFault → List Did → Type 0
+abbrev Wrote : ℕ → Regs → Result Row PartNo → List Step → Result (Unit {0}) NorFault → List Did
+    → Type 0
 Wrote k regs checked steps (Ok _) items = HasWritten k regs checked steps items
 Wrote k regs checked steps (Err why) items = BreaksOff k regs why checked steps items
 
@@ -199,7 +201,8 @@ module _ {B : Type 0} where
       (r : Result (Unit {0}) StepNo) (o a b : Own B Did) → end' ≡ Err (barred_by refusal)
       → Keeps o a → NotesEnd k (end_act end') r a b → HasWrote k (Err refusal) steps r o b
   wrote_barred k refusal steps end' r o a b is keeps notes =
-      let act_is : end_act end' ≡ Ok (acts.Refused (why_of refusal)) = ap end_act is ∙ barred_act refusal in
+      let act_is : end_act end' ≡ Ok (acts.Refused (why_of refusal)) =
+      ap end_act is ∙ barred_act refusal in
       let both : (r ≡ Ok tt) × Adds (refused k a.regs (why_of refusal)) a b =
       subst (λ (x : Result Act StepNo). NotesEnd k x r a b) act_is notes in
       record {
@@ -207,8 +210,8 @@ module _ {B : Type 0} where
         adds = keeps_adds (refused k o.regs (why_of refusal)) o a b keeps
             (subst (λ (regs : Regs). Adds (refused k regs (why_of refusal)) a b)
             (ap (λ (z : Own B Did). z.regs) keeps.is) both.1);
-        wrote = subst (λ (x : Result (Unit {0}) StepNo). Wrote k o.regs (Err refusal) steps (fault_of x)
-            (refused k o.regs (why_of refusal))) (sym both.0) refl;
+        wrote = subst (λ (x : Result (Unit {0}) StepNo). Wrote k o.regs (Err refusal) steps
+            (fault_of x) (refused k o.regs (why_of refusal))) (sym both.0) refl;
       }
 
   -- it was not
@@ -287,7 +290,8 @@ module _ {B : Type 0} where
       → HasActed rows k (Write label offset bytes) (fault_of r) o b
   write_acted rows k label offset bytes end' r o a b barred ran notes =
       write_by rows k label offset bytes r o b
-      (wrote_by k (write_checked rows label.items offset (length bytes)) _ end' r o a b barred ran notes)
+      (wrote_by k (write_checked rows label.items offset (length bytes)) _ end' r o a b barred ran
+      notes)
 
   pub erase_acted : (rows : List Row) (k : ℕ) (label : ArrayVec ℕ) (offset len : ℕ)
       (end' : Result (Unit {0}) OpNo) (r : Result (Unit {0}) StepNo) (o a b : Own B Did)

@@ -330,8 +330,8 @@ mask_after regs (Erase label offset len) bounds small = small
 
 module _ {S K P : Type 0} (part : K → ℕ → P) (grants : P → Step → Type 0)
     (moved : P → Step → P) where
-  pub write_room : (o a : Own (Base S K) Did) (k : ℕ) (rows : List Row) (label : ArrayVec ℕ) (offset : ℕ)
-      (bytes : List ℕ) (r : Result (Unit {0}) OpNo)
+  pub write_room : (o a : Own (Base S K) Did) (k : ℕ) (rows : List Row) (label : ArrayVec ℕ)
+      (offset : ℕ) (bytes : List ℕ) (r : Result (Unit {0}) OpNo)
       → CanAct part grants moved rows (Write label offset bytes) o
       → IfErr (write_checked rows label.items offset (length bytes))
       (λ why. (r ≡ Err (barred_by why)) × Keeps o a)

@@ -35,7 +35,8 @@ no_write rows label offset bytes refusal is =
     ap (λ (r : Result Row PartNo). steps_in r (λ row. write_steps (row.offset + offset) bytes)) is
 
 no_erase : (rows : List Row) (label : List ℕ) (offset len : ℕ) (refusal : PartNo)
-    → erase_checked rows label offset len ≡ Err refusal → part_erase_steps rows label offset len ≡ []
+    → erase_checked rows label offset len ≡ Err refusal
+    → part_erase_steps rows label offset len ≡ []
 unfolding part_erase_steps
 no_erase rows label offset len refusal is =
     ap (λ (r : Result Row PartNo). steps_in r (λ row. erase_steps (row.offset + offset) len)) is

@@ -49,7 +49,8 @@ fn erased(alloc: Global, size: usize) -> Result<Vec<u8>, AllocError>
     Ok(vec![in alloc; 0xFF; size]?)
 }
 
-/// Gates over that flash, whose second page is the first one of the data space, with room for core 1.
+/// Gates over that flash, whose second page is the first one of the data space, with room for
+/// core 1.
 fn gates(
     alloc: Global,
     room: Room,
@@ -81,8 +82,8 @@ fn gates(
     open(alloc, bus).ok()
 }
 
-/// The journal that a script leaves, whether the device let it come to its end, and how many calls of
-/// the pace came in order.
+/// The journal that a script leaves, whether the device let it come to its end, and how many calls
+/// of the pace came in order.
 fn lone<R: Wait>(rt: &R, alloc: Global, text: &[u8], rows: &[Row]) -> Option<(Journal, bool, u32)>
     requires few { length rows.now ≤ 94 }
 {
