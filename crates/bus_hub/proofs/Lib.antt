@@ -14,3 +14,5 @@ pub mod Facts
 pub mod Stops
 pub mod Knowing
 pub mod Fixing
+pub mod Prefixes
+pub mod Forgetting
