@@ -5,3 +5,4 @@ mod AskLemmas
 mod ActLemmas
 pub mod WorkLemmas
 mod RoomLemmas
+mod FreshLemmas
