@@ -1,5 +1,5 @@
 -- A core that was just opened can work on a script, where its duty allows every step.
-use Rattle.std.proofs.Common.{◌≡◌, ℕ, ◌<◌, ◌≤◌, ◌^◌, List, [], ◌∷◌, length, Option, Some, None, sym, ap, subst, arith}
+use Rattle.std.proofs.Common.{◌≡◌, ℕ, ◌<◌, ◌≤◌, ◌^◌, List, [], ◌∷◌, length, Option, Some, None, sym, subst, arith}
 use Rattle.core_state.specs.declared.registers.Regs.{Regs}
 use Rattle.atomic_table.specs.Seated.{TableId}
 use Rattle.nor_device.specs.declared.step.Step.{Step}

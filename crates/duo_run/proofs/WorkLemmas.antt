@@ -1,5 +1,5 @@
 -- One action of a script behind the other.
-use Rattle.std.proofs.Common.{◌≡◌, ℕ, zero, suc, ◌+◌, ◌≤◌, List, [], ◌∷◌, ◌++◌, length, drop, Option, Some, None, Result, Ok, Err, inl, inr, refl, sym, ap, subst, ◌∙◌, append-nil, add-one, arith}
+use Rattle.std.proofs.Common.{◌≡◌, ℕ, zero, suc, ◌+◌, ◌≤◌, List, [], ◌∷◌, ◌++◌, length, drop, Some, Result, Ok, Err, inl, inr, refl, sym, ap, subst, ◌∙◌, add-one, arith}
 use Rattle.std.specs.List.{slice_get}
 use Rattle.core_state.specs.declared.registers.Regs.{Regs}
 use Rattle.nor_device.specs.declared.step.Step.{Step}
@@ -14,7 +14,7 @@ use Rattle.flash_ops.specs.declared.refusal.StepNo.{StepNo}
 use Rattle.flash_ops.specs.declared.refusal.StepNo.TheVariants.{Device, Cut}
 use Rattle.flash_ops.specs.Told.{fault_of}
 use Rattle.flash_ops.proofs.Runs.{adds_none, adds_then, keeps_same}
-use Rattle.duo_run.specs.Worker.{HasDone, HasLeft, HasStopped, ShareFrom, regs_after, regs_by}
+use Rattle.duo_run.specs.Worker.{HasLeft, ShareFrom, regs_after, regs_by}
 use Rattle.duo_run.specs.Works.{CanAct, CanWork, HasActed, HasWorked, HasWorkedFrom}
 use Rattle.duo_run.proofs.StepsLemmas.{regs_by-append}
 use Rattle.duo_run.proofs.ShareLemmas.{ended_regs, left_regs}
