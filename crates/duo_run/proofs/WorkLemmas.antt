@@ -97,8 +97,8 @@ dropped [] (suc i) behind = refl
 dropped (x ∷ xs) zero behind = absurd (omega arith)
 dropped (x ∷ xs) (suc i) behind = dropped xs i (omega arith)
 
--- so many actions of a script were done: those to come can be done, and whatever they come to, the
--- whole script does
+-- so many actions of a script were done: those to come can be done, and whatever they come to,
+-- the whole script does
 pub record IsAt {S K P : Type 0} (part : K → ℕ → P) (grants : P → Step → Type 0)
     (moved : P → Step → P) (rows : List Row) (script : List Action) (i : ℕ)
     (o o' : Own (Base S K) Did) : Type 0 where
