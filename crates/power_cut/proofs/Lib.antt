@@ -4,3 +4,4 @@ pub mod EndsLemmas
 pub mod WholeLemmas
 pub mod LogLemmas
 pub mod LegLemmas
+pub mod MergeLemmas
