@@ -5,3 +5,4 @@ pub mod WholeLemmas
 pub mod LogLemmas
 pub mod LegLemmas
 pub mod MergeLemmas
+pub mod InstalledLemmas
