@@ -6,3 +6,4 @@ pub mod LogLemmas
 pub mod LegLemmas
 pub mod MergeLemmas
 pub mod InstalledLemmas
+pub mod EmptyLemmas
