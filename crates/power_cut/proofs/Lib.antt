@@ -4,3 +4,6 @@ pub mod EndsLemmas
 pub mod WholeLemmas
 pub mod LogLemmas
 pub mod LegLemmas
+pub mod MergeLemmas
+pub mod InstalledLemmas
+pub mod EmptyLemmas

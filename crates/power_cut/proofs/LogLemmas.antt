@@ -83,9 +83,9 @@ module _ {K P : Type 0} (part : K → ℕ → P) (grants : P → Step → Type 0
 
   -- ---- behind a chosen step nothing is begun any more
 
-  record Stopped (set : Choice) (n : ℕ) (s : State K) : Type 0 where
-    idle : s.running ≡ None
-    steps : s.steps ≡ n
+  pub record Stopped (set : Choice) (n : ℕ) (s : State K) : Type 0 where
+    pub idle : s.running ≡ None
+    pub steps : s.steps ≡ n
 
   none_runs : (c : ℕ) (Q : Running → Type 0) (o : Option Running) → o ≡ None → Runs c Q o → ⊥
   none_runs c Q None none runs = runs
@@ -112,14 +112,14 @@ module _ {K P : Type 0} (part : K → ℕ → P) (grants : P → Step → Type 0
   stopped_item set n s c (Missed at len) bad rule is = is
   stopped_item set n s c (Masked at len) bad rule is = is
 
-  stopped_log : (set : Choice) (n : ℕ) (s : State K) (log : List Item) → Bad set n
+  pub stopped_log : (set : Choice) (n : ℕ) (s : State K) (log : List Item) → Bad set n
       → IsRuled set s log → Stopped set n s → Stopped set n (reached after s log)
   stopped_log set n s log bad ruled is =
       kept MayEnd MayTear MayRefuse MustRefuse part grants after set (Stopped set n)
       (λ t c did small rule q. stopped_item set n t c did bad rule q) s log ruled is
 
   -- a refusal comes behind a chosen step, or of it
-  refused_here : (set : Choice) (s : State K) (c : ℕ) (did : Did) → IsRefusal did
+  pub refused_here : (set : Choice) (s : State K) (c : ℕ) (did : Did) → IsRefusal did
       → Obeys set s c did → Bad set s.steps × Stopped set s.steps (change after s c did)
   refused_here set s c (Opened k regs step) refusal rule = absurd refusal
   refused_here set s c (Closed k regs) refusal rule = absurd refusal

@@ -71,7 +71,7 @@ done_whole Empty is = absurd cc
 done_whole (Bad why) is = absurd cc
 
 -- where a session ends so, its image is whole
-sealed_whole : ShowsNone → (size : ℕ) (image : List ℕ) → session_end size image ≡ Done
+pub sealed_whole : ShowsNone → (size : ℕ) (image : List ℕ) → session_end size image ≡ Done
     → Whole image size
 sealed_whole shown size [] is = absurd cc
 sealed_whole shown size (byte ∷ bytes) is = at (cases_Bool (byte == 0xE9))
