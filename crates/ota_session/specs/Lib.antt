@@ -1,4 +1,7 @@
--- In reading order: what an update is for and how far it has come; how a duty shows it.
+-- In reading order: what an update is for and how far it has come; how a duty shows it; the moves
+-- and the stages of a session, and the answers of its calls.
 pub mod Course
 pub mod DutyView
 pub mod DutyLaws
+pub mod Stages
+pub mod SessionTold
