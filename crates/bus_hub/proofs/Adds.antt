@@ -112,6 +112,7 @@ module _ {D S K P : Type 0}
         left_fits = left_fits;
         right_fits = right_fits;
         good_first = s.good_first;
+        whole_first = s.whole_first;
         stood = record {
           log = s.stood.log ++ item c did ∷ [];
           left_is = left_is;
@@ -137,6 +138,7 @@ module _ {D S K P : Type 0}
       left_fits = s.left_fits;
       right_fits = s.right_fits;
       good_first = s.good_first;
+      whole_first = s.whole_first;
       stood = record {
         log = s.stood.log;
         left_is = s.stood.left_is;

@@ -54,7 +54,7 @@ module _ {S K P : Type 0}
       torn_good first s.duty run.core run.step s.flash left is granted.1 runs.1.1
 
   -- what an item leaves
-  item_good : (first : List ℕ) (set : S) (s : State K) (c : ℕ) (did : Did) → c < 2
+  pub item_good : (first : List ℕ) (set : S) (s : State K) (c : ℕ) (did : Did) → c < 2
       → Obeys set s c did → IsGoodState first s → IsGoodState first (change after s c did)
   item_good first set s c (Opened k regs step) small rule is = record {
     flash_good = is.flash_good;

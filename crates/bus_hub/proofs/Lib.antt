@@ -13,3 +13,6 @@ pub mod FlashLog
 pub mod Facts
 pub mod Stops
 pub mod Knowing
+pub mod Fixing
+pub mod Prefixes
+pub mod Forgetting

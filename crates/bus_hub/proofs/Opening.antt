@@ -5,7 +5,7 @@ use Rattle.core_state.specs.declared.registers.Record.{Record}
 use Rattle.nor_device.specs.declared.step.Step.{Step}
 use Rattle.nor_device.specs.declared.nor.StepEnd.{StepEnd}
 use Rattle.nor_device.specs.declared.nor.NorFault.{NorFault}
-use Rattle.mmu_map.specs.Map.{Map}
+use Rattle.mmu_map.specs.Map.{Map, IsWhole}
 use Rattle.bus_hub.specs.declared.did.Did.{Did}
 use Rattle.bus_hub.specs.declared.did.Base.{Base}
 use Rattle.bus_hub.specs.Room.{Kept, empty_journal}
@@ -49,9 +49,9 @@ module _ {D S K P : Type 0}
       (left right : Record)
       → IsBaseOf bytes off steps faults setting b dev map journal duty
       → journal ≡ empty_journal journal.left_room journal.right_room
-      → ((flash : List ℕ) → bytes dev ≡ Some flash → good flash duty flash)
+      → ((flash : List ℕ) → bytes dev ≡ Some flash → good flash duty flash) → IsWhole map
       → StandsBy (record (opened dev map journal duty) { left = left; right = right }) b [] []
-  opens b dev map journal duty left right is empty good_first =
+  opens b dev map journal duty left right is empty good_first whole_first =
       record {
         flash = b.flash;
         told = is.flash_is;
@@ -66,6 +66,7 @@ module _ {D S K P : Type 0}
         right_fits = record { entries_fit = omega arith; bytes_fit = omega arith };
         good_first = subst (λ (k : K). good b.flash k b.flash) (sym is.duty_is)
             (good_first b.flash is.flash_is);
+        whole_first = subst IsWhole (sym is.map_is) whole_first;
         stood = record {
           log = [];
           left_is = refl;

@@ -6,7 +6,7 @@ use Rattle.core_state.specs.Registers.{starting}
 use Rattle.nor_device.specs.declared.step.Step.{Step}
 use Rattle.nor_device.specs.declared.nor.StepEnd.{StepEnd}
 use Rattle.nor_device.specs.declared.nor.NorFault.{NorFault}
-use Rattle.mmu_map.specs.Map.{Map}
+use Rattle.mmu_map.specs.Map.{Map, IsWhole}
 use Rattle.bus_hub.specs.declared.journal.Room.{Room}
 use Rattle.bus_hub.specs.declared.did.Running.{Running}
 use Rattle.bus_hub.specs.declared.did.Did.{Did}
@@ -174,6 +174,7 @@ module _ {D S K P : Type 0}
     pub left_fits : Fits b 0 left
     pub right_fits : Fits b 1 right
     pub good_first : good b.flash b.duty b.flash
+    pub whole_first : IsWhole b.map
     pub stood : Stood may_end may_tear may_refuse must_refuse part grants after b.setting (begun b)
         (state_of h flash (steps h.dev) noted is_off) left right
 

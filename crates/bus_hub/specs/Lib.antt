@@ -7,3 +7,4 @@ pub mod Shares
 pub mod Legal
 pub mod HubView
 pub mod Told
+pub mod Moments

@@ -97,6 +97,7 @@ impl<D: Crash, K: Duty> Bus<D, K> {
             → ⟦<Bus<D, K> as Records>⟧.stands result b [] [] }
         ensures leaves { IsSafe ⟦<Bus<D, K> as Records>⟧.stands D.may_leave K.good result }
     {
+        pages.whole();
         let bus = Bus {
             dev,
             pages,

@@ -1,8 +1,11 @@
 //! What holds of every bus, whatever base and shares it stands for.
 
-ghost use Rattle.std.specs.Prelude.{◌≡◌, ℕ, ◌+◌, ◌<◌, ◌≤◌, List, None, length};
+ghost use Rattle.std.specs.Prelude.{◌≡◌, ℕ, ◌+◌, ◌-◌, ◌*◌, ◌<◌, ◌≤◌, List, None, length};
 ghost use Rattle.core_state.specs.Sharing.{in_order};
 ghost use Rattle.nor_device.specs.declared.step.Step.{Step};
+ghost use Rattle.mmu_map.specs.Place.{place_of};
+ghost use Rattle.mmu_map.specs.Map.{Map, IsWhole, IsFixedAt, IsFreeRun, fixed, use_in};
+ghost use Rattle.bus_hub.specs.Fetch.{IsFixed};
 ghost use Rattle.bus_hub.specs.declared.did.Base.{Base};
 ghost use Rattle.bus_hub.specs.declared.did.Did.{Did};
 ghost use Rattle.bus_hub.specs.Room.{HasRoom};
@@ -70,4 +73,26 @@ impl<D: Crash, K: Duty> Bus<D, K> {
             (s : ⟦<Bus<D, K> as Records>⟧.stands self.now b left right)
             → StopsAt (D.must_refuse (D.setting self.now.dev)) b.steps s.stood.log }
     {}
+    /// What was fixed when the bus was made is fixed to the same flash pages, whatever the cores mapped
+    /// and freed since. A range that could be fetched by it can still be.
+    pub fn fixed(&self)
+        ensures pages { (b : Base D.Setting K) (left right : List Did) (at : ℕ)
+            → ⟦<Bus<D, K> as Records>⟧.stands self.now b left right → IsFixedAt b.map at
+            → use_in self.now.map (place_of at) ≡ use_in b.map (place_of at) }
+        ensures range { (b : Base D.Setting K) (left right : List Did) (at len : ℕ)
+            → ⟦<Bus<D, K> as Records>⟧.stands self.now b left right
+            → IsFixed b.map (length b.flash) at len
+            → IsFixed self.now.map (D.size self.now.dev) at len }
+    {}
 }
+
+/// A range inside pages that were just fixed is fixed, where their flash pages lie in the flash. It
+/// stays so while more is fixed.
+pub fn a_range_in_fixed_pages_is_fixed()
+    ensures there { (m : Map) (at flash_page n size from len : ℕ) → IsWhole m → IsFreeRun m at n
+        → at ≤ from → from + len ≤ at + n * 65536
+        → flash_page * 65536 + (from - at) + len ≤ size
+        → IsFixed (fixed m at flash_page n) size from len }
+    ensures kept { (m : Map) (at flash_page n size from len : ℕ) → IsWhole m → IsFreeRun m at n
+        → IsFixed m size from len → IsFixed (fixed m at flash_page n) size from len }
+{}

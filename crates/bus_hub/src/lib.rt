@@ -20,5 +20,6 @@ pub use did::{Base, Did, Running};
 pub use duty::{AnyDuty, AnyPart, Duty};
 pub use entry::{Act, Entry, Why};
 pub use journal::{Journal, Memory, Room};
+pub use laws::a_range_in_fixed_pages_is_fixed;
 pub use reads::FetchNo;
 pub use span::Span;

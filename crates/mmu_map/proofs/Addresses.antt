@@ -11,16 +11,11 @@ use Rattle.mmu_map.specs.declared.page_use.PageUse.{PageUse}
 use Rattle.mmu_map.specs.declared.page_use.PageUse.TheVariants.{Free}
 use Rattle.mmu_map.specs.Place.{place, place_of, pages_in, address_of}
 use Rattle.mmu_map.specs.Runs.{use_at, AreFree, AreWhole, fixed_run, mapped_run, with_run, flash_page_of}
-use Rattle.mmu_map.specs.Map.{Map, empty, uses_in, with_uses, use_in, translated, flash_address, AreFreeFrom, IsFreeRun, IsRun, IsRunIn, with_run_at, fixed, mapped, freed}
+use Rattle.mmu_map.specs.Map.{Map, IsWhole, empty, uses_in, with_uses, use_in, translated, flash_address, AreFreeFrom, IsFreeRun, IsRun, IsRunIn, with_run_at, fixed, mapped, freed}
 use Rattle.mmu_map.specs.Calls.{Call, FixedAt, MappedAt, FreedAt, CanMake, CanMakeAll, after_call, after_calls, within_run, leads_to, leads_after}
 use Rattle.mmu_map.proofs.WithRun.{length_with, use_before, use_within, use_after}
 use Rattle.mmu_map.proofs.Whole.{length_fixed, length_mapped, later_at, whole_none, free_none, fixed_whole, mapped_whole, freed_whole}
 use Rattle.mmu_map.proofs.Places.{place_in, lies, starts_page}
-
--- each space has as many pages as it should, and its runs are whole
-pub record IsGood (m : Map) : Type 0 where
-  pub many : (space : Space) → length (uses_in m space) ≡ pages_in space
-  pub whole : (space : Space) → AreWhole (uses_in m space)
 
 -- the uses of a space that were replaced, and those of the other space
 uses_same : (m : Map) (space : Space) (uses : List PageUse)
@@ -40,7 +35,7 @@ abbrev pub put : Map → Space → ℕ → List PageUse → Map
 put m space first run = with_run_at m (Some (place space first)) run
 
 -- an address lies in so many pages from another one on, or does not
-within_cases : (at n a : ℕ) (there elsewhere : Option ℕ)
+pub within_cases : (at n a : ℕ) (there elsewhere : Option ℕ)
     → ((at ≤ a) × (a < at + n * 65536) × (within_run at n a there elsewhere ≡ there))
     ⊎ (((a < at) ⊎ (at + n * 65536 ≤ a)) × (within_run at n a there elsewhere ≡ elsewhere))
 within_cases at n a there elsewhere = elim (cases_lt a at) [
@@ -58,13 +53,13 @@ within_cases at n a there elsewhere = elim (cases_lt a at) [
 ]
 
 module _ (m : Map) (space : Space) (first n at : ℕ) (run : List PageUse) (many : length run ≡ n)
-    (good : IsGood m) (within : first + n ≤ length (uses_in m space))
+    (good : IsWhole m) (within : first + n ≤ length (uses_in m space))
     (starts : at ≡ address_of space first) where
   fits : first + length run ≤ length (uses_in m space)
   fits = omega arith
 
   -- in the run
-  inside_is : (a : ℕ) → at ≤ a → a < at + n * 65536
+  pub inside_is : (a : ℕ) → at ≤ a → a < at + n * 65536
       → use_in (put m space first run) (place_of a) ≡ use_at run ((a - at) / 65536)
   inside_is a from to =
       let sized : length (uses_in m space) ≡ pages_in space = good.many space in
@@ -113,7 +108,7 @@ module _ (m : Map) (space : Space) (first n at : ℕ) (run : List PageUse) (many
         | inr same ↦ ap (λ (uses : List PageUse). use_at uses page) same
       ]
 
-  outside_is : (a : ℕ) → (a < at) ⊎ (at + n * 65536 ≤ a)
+  pub outside_is : (a : ℕ) → (a < at) ⊎ (at + n * 65536 ≤ a)
       → use_in (put m space first run) (place_of a) ≡ use_in m (place_of a)
   outside_is a beside = elim (lies a) [
     | inl none ↦ rw none refl
@@ -135,7 +130,7 @@ module _ (m : Map) (space : Space) (first n at : ℕ) (run : List PageUse) (many
   ]
 
   -- the map stays good
-  good_after : AreWhole (with_run (uses_in m space) first run) → IsGood (put m space first run)
+  good_after : AreWhole (with_run (uses_in m space) first run) → IsWhole (put m space first run)
   good_after whole = record {
     many = λ other. elim (uses_by m space other (with_run (uses_in m space) first run)) [
       | inl e ↦ subst (λ (s : Space). length (uses_in (put m space first run) s) ≡ pages_in s) e
@@ -174,9 +169,9 @@ leads_there f at a starts from = ap (λ (i : ℕ). Some i) (omega arith)
 -- what a call does to the address of a page
 pub record Steps (m : Map) (call : Call) : Type 0 where
   pub leads : (a : ℕ) → translated (after_call m call) a ≡ leads_to call a (translated m a)
-  pub good : IsGood (after_call m call)
+  pub good : IsWhole (after_call m call)
 
-step_fixed : (m : Map) (at f n : ℕ) → IsGood m → IsFreeRun m at n → Steps m (FixedAt at f n)
+pub step_fixed : (m : Map) (at f n : ℕ) → IsWhole m → IsFreeRun m at n → Steps m (FixedAt at f n)
 step_fixed m at f n good free = elim (lies at) [
   | inl none ↦ absurd (subst (λ (p : Option Place). AreFreeFrom m p n) none free.free)
   | inr l ↦
@@ -192,13 +187,13 @@ step_fixed m at f n good free = elim (lies at) [
             ap (λ (p : Option ℕ). flash_address a p)
             (fixed_page f n ((a - at) / 65536) (omega arith))
             ∙ leads_there f at a free.page_start from);
-        good = subst IsGood same (good_after m l.space l.page n at (fixed_run f n)
+        good = subst IsWhole same (good_after m l.space l.page n at (fixed_run f n)
             (length_fixed f n) good there.within starts
             (fixed_whole (uses_in m l.space) l.page f n (good.whole l.space) there));
       }
 ]
 
-step_mapped : (m : Map) (at f n : ℕ) → IsGood m → IsFreeRun m at n → Steps m (MappedAt at f n)
+step_mapped : (m : Map) (at f n : ℕ) → IsWhole m → IsFreeRun m at n → Steps m (MappedAt at f n)
 step_mapped m at f n good free = elim (lies at) [
   | inl none ↦ absurd (subst (λ (p : Option Place). AreFreeFrom m p n) none free.free)
   | inr l ↦
@@ -214,13 +209,13 @@ step_mapped m at f n good free = elim (lies at) [
             ap (λ (p : Option ℕ). flash_address a p)
             (mapped_page f n ((a - at) / 65536) (omega arith))
             ∙ leads_there f at a free.page_start from);
-        good = subst IsGood same (good_after m l.space l.page n at (mapped_run f n)
+        good = subst IsWhole same (good_after m l.space l.page n at (mapped_run f n)
             (length_mapped f n) good there.within starts
             (mapped_whole (uses_in m l.space) l.page f n (good.whole l.space) there));
       }
 ]
 
-step_freed : (m : Map) (at n : ℕ) → IsGood m → IsRun m at n → Steps m (FreedAt at n)
+step_freed : (m : Map) (at n : ℕ) → IsWhole m → IsRun m at n → Steps m (FreedAt at n)
 step_freed m at n good is_run = elim (lies at) [
   | inl none ↦ absurd (subst (λ (p : Option Place). IsRunIn m p n) none is_run.run)
   | inr l ↦
@@ -236,19 +231,19 @@ step_freed m at n good is_run = elim (lies at) [
             starts a None (λ from to.
             ap (λ (used : PageUse). flash_address a (flash_page_of used))
             (get_or-replicate n ((a - at) / 65536) Free Free (omega arith)));
-        good = subst IsGood same (good_after m l.space l.page n at (replicate n Free)
+        good = subst IsWhole same (good_after m l.space l.page n at (replicate n Free)
             (length-replicate n Free) good within starts
             (freed_whole (uses_in m l.space) l.page there.0 n (good.whole l.space) there.1));
       }
 ]
 
-steps : (m : Map) (call : Call) → IsGood m → CanMake m call → Steps m call
+pub steps : (m : Map) (call : Call) → IsWhole m → CanMake m call → Steps m call
 steps m (FixedAt at f n) good can = step_fixed m at f n good can
 steps m (MappedAt at f n) good can = step_mapped m at f n good can
 steps m (FreedAt at n) good can = step_freed m at n good can
 
 -- after a list of calls
-leads_by : (calls : List Call) (m : Map) (a : ℕ) (before : Option ℕ) → IsGood m
+leads_by : (calls : List Call) (m : Map) (a : ℕ) (before : Option ℕ) → IsWhole m
     → translated m a ≡ before → CanMakeAll m calls
     → translated (after_calls m calls) a ≡ leads_after calls a before
 leads_by [] m a before good is can = is
@@ -257,7 +252,7 @@ leads_by (call ∷ calls) m a before good is can =
     leads_by calls (after_call m call) a (leads_to call a before) s.good
     (s.leads a ∙ ap (λ (p : Option ℕ). leads_to call a p) is) can.1
 
-empty_good : IsGood empty
+pub empty_good : IsWhole empty
 empty_good = record {
   many = many;
   whole = whole;

@@ -24,7 +24,7 @@ free_in_empty Code page n within = record {
 }
 
 -- an address of a page's start
-page_start : (space : Space) (page : ℕ) → address_of space page % 65536 ≡ 0
+pub page_start : (space : Space) (page : ℕ) → address_of space page % 65536 ≡ 0
 page_start Data page = omega arith
 page_start Code page = omega arith
 

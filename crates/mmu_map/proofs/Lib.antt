@@ -6,3 +6,4 @@ pub mod Maps
 pub mod Addresses
 pub mod Empty
 pub mod InPage
+pub mod Fixed

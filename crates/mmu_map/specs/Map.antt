@@ -1,5 +1,5 @@
 -- The map from the pages of both spaces to flash pages, and what the calls make of it.
-use Rattle.std.specs.Prelude.{◌≡◌, ℕ, ◌+◌, ◌*◌, ◌%◌, ◌<◌, List, replicate, Option, Some, None, Result, Ok, Err}
+use Rattle.std.specs.Prelude.{◌≡◌, ℕ, ◌+◌, ◌*◌, ◌%◌, ◌<◌, List, length, replicate, Option, Some, None, Result, Ok, Err}
 use Rattle.image_layout.specs.declared.space.Space.{Space}
 use Rattle.image_layout.specs.declared.space.Space.TheVariants.{Data, Code}
 use Rattle.mmu_map.specs.declared.page_use.PageUse.{PageUse}
@@ -7,8 +7,8 @@ use Rattle.mmu_map.specs.declared.page_use.PageUse.TheVariants.{Free, Fixed, Fir
 use Rattle.mmu_map.specs.declared.place.Place.{Place}
 use Rattle.mmu_map.specs.declared.runs.NoPages.{NoPages}
 use Rattle.mmu_map.specs.declared.runs.NotMapped.{NotMapped}
-use Rattle.mmu_map.specs.Place.{address_of, place_of}
-use Rattle.mmu_map.specs.Runs.{use_at, AreFree, IsLowest, IsLongest, fixed_run, mapped_run, with_run, IsRunAt, run_length, flash_page_of}
+use Rattle.mmu_map.specs.Place.{address_of, pages_in, place_of}
+use Rattle.mmu_map.specs.Runs.{use_at, AreFree, AreWhole, IsLowest, IsLongest, fixed_run, mapped_run, with_run, IsRunAt, run_length, flash_page_of}
 
 -- what the pages of each space are used for, in order
 pub record Map : Type 0 where
@@ -53,6 +53,12 @@ IsForGood (Later flash_page) = ⊥
 -- the address lies in a page that was fixed
 abbrev pub IsFixedAt : Map → ℕ → Type 0
 IsFixedAt m at = IsForGood (use_in m (place_of at))
+
+-- the map has all pages of both spaces, and each run that was mapped lies inside its space and
+-- meets no other one
+pub record IsWhole (m : Map) : Type 0 where
+  pub many : (space : Space) → length (uses_in m space) ≡ pages_in space
+  pub whole : (space : Space) → AreWhole (uses_in m space)
 
 -- so many pages from the one at the place on are there, and free
 abbrev pub AreFreeFrom : Map → Option Place → ℕ → Type 0

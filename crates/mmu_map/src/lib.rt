@@ -9,7 +9,10 @@ mod runs;
 #[cfg(test)]
 mod tests;
 
-pub use laws::{a_page_leads_to_one_flash_page, each_address_goes_by_its_calls};
+pub use laws::{
+    a_page_leads_to_one_flash_page, each_address_goes_by_its_calls,
+    fixed_pages_lead_to_their_flash_pages, what_is_fixed_stays,
+};
 pub use page_use::PageUse;
 pub use pages::Pages;
 pub use runs::{NoPages, NotMapped};

@@ -32,7 +32,7 @@ impl Model for Pages {
 }
 
 impl Pages {
-    ghost use Rattle.mmu_map.specs.Map.{empty, uses_in, with_uses, translated, IsFreeRun, fixed, IsMapAnswer, after_map, IsUnmapAnswer, after_unmap};
+    ghost use Rattle.mmu_map.specs.Map.{IsWhole, empty, uses_in, with_uses, translated, IsFreeRun, fixed, IsMapAnswer, after_map, IsUnmapAnswer, after_unmap};
 
     /// No page is mapped.
     pub fn new() -> Pages
@@ -42,6 +42,14 @@ impl Pages {
             data_uses: [PageUse::Free; DATA_PAGES],
             code_uses: [PageUse::Free; CODE_PAGES],
         }
+    }
+
+    /// Every map of pages is whole.
+    pub fn whole(&self)
+        ensures { IsWhole self.now }
+    {
+        let _data: &[PageUse] = &self.data_uses;
+        let _code: &[PageUse] = &self.code_uses;
     }
 
     /// Maps `n` pages from the address on to the flash pages from `flash_page` on, for good.
