@@ -1,6 +1,6 @@
 -- From one stage of a session to the next: what a core may do, and what holds once it is done.
 use Rattle.std.proofs.Common.{◌≡◌, ◌≢◌, ◌⊎◌, inl, inr, ℕ, zero, suc, ◌+◌, ◌-◌, ◌*◌, ◌/◌, ◌%◌, ◌^◌, ◌<◌, ◌≤◌, Bool, true, false, List, [], ◌∷◌, ◌++◌, length, take, drop, Option, Some, None, IfSome, IsSome, Result, Ok, Err, refl, sym, ap, ◌∙◌, subst, arith, append_assoc, append-nil, length-take}
-use Rattle.std.specs.Prelude.{◌==◌, if◌then◌else◌, slice_get}
+use Rattle.std.specs.Prelude.{◌==◌, not, if◌then◌else◌, slice_get}
 use Rattle.std.proofs.lemmas.Bool.Decides.{nat_tests}
 use Rattle.nor_device.specs.declared.step.Step.{Step}
 use Rattle.nor_device.specs.declared.nor.NorFault.{NorFault}
@@ -30,7 +30,7 @@ use Rattle.flash_ops.proofs.Runs.{made_more}
 use Rattle.flash_ops.proofs.Pieces.{steps_of_write}
 use Rattle.ota_session.specs.Course.{Confirm, Confirms, Course, Grants, Install, Installs, IsFor, Purpose, course_from, part_after, part_of, steps_for}
 use Rattle.ota_session.specs.Stages.{Drives, IsNextPiece, IsOpen, IsPartWritten, IsWriting, IsWritten, Writing, begin_moves, image_for, image_of, in_slot, slot_moves, target_of}
-use Rattle.ota_session.specs.SessionTold.{cause_of, HasBegun, HasWritten, other_byte, piece_moves, wrong_byte}
+use Rattle.ota_session.specs.SessionTold.{cause_of, HasBegun, HasWritten, piece_moves, wrong_byte}
 use Rattle.ota_session.specs.declared.target.Target.{Target}
 use Rattle.ota_session.proofs.MoveLemmas.{data_front, erases_front, steps_of_begin, write_front, write_next}
 use Rattle.ota_session.proofs.PartLemmas.{driver_may}
@@ -263,7 +263,8 @@ regroup e w p more tail =
 
 -- a first piece whose first byte is not another is that of an image
 first_marked : (piece image : List ℕ) (len : ℕ) → 1 ≤ length piece → piece ≡ take len image
-    → other_byte piece ≡ None → take 1 image ≡ 0xE9 ∷ []
+    → wrong_byte 0 piece ≡ None → take 1 image ≡ 0xE9 ∷ []
+unfolding wrong_byte
 first_marked [] image len some is none = absurd (omega arith)
 first_marked (byte ∷ bytes) [] zero some is none = absurd cc
 first_marked (byte ∷ bytes) [] (suc len) some is none = absurd cc
@@ -273,7 +274,7 @@ first_marked (byte ∷ bytes) (b ∷ image) (suc len) some is none =
     let mark : byte ≡ 0xE9 = by (byte == 0xE9) refl none in
     ap (λ (x : ℕ). x ∷ []) (same ∙ mark)
   where
-    by : (test : Bool) → (byte == 0xE9) ≡ test → (if test then None else Some byte) ≡ None
+    by : (test : Bool) → (byte == 0xE9) ≡ test → (if not test then Some byte else None) ≡ None
         → byte ≡ 0xE9
     by true is none = grind (arith, nat_tests)
     by false is none = absurd cc
@@ -344,7 +345,6 @@ module _ {S : Type 0} (probe : Option ℕ) (w : Writing (Base S Course)) (piece 
     ]
 
     marked : take 1 image ≡ 0xE9 ∷ []
-    unfolding wrong_byte
     marked = elim writing.part.marked [
       | inl none ↦
           first_marked piece image len next.some
@@ -419,3 +419,30 @@ module _ {S : Type 0} (probe : Option ℕ) (w : Writing (Base S Course)) (piece 
                 ∙ ap (λ (l : List Step). slot_erases row.offset image ++ l) (sym together));
           };
         }
+
+-- the same of a session that is taken apart
+
+pub can_write_at : {S : Type 0} (probe : Option ℕ) (w self : Writing (Base S Course))
+    (piece : List ℕ) → w ≡ self → IsWriting self → IsNextPiece self piece
+    → wrong_byte w.written piece ≡ None
+    → HasRoomFor self.core.base self.core.core self.core.share (piece_moves probe self piece)
+    → CanLook self.core.base self.core.regs probe → CanWrite probe w piece
+can_write_at {S} probe w self piece same =
+    subst (λ (s : Writing (Base S Course)). IsWriting s → IsNextPiece s piece
+    → wrong_byte w.written piece ≡ None
+    → HasRoomFor s.core.base s.core.core s.core.share (piece_moves probe s piece)
+    → CanLook s.core.base s.core.regs probe → CanWrite probe w piece) same
+    (λ writing next right room look. can_write probe w piece writing next right room look)
+
+pub has_written_at : {S : Type 0} (probe : Option ℕ) (w self : Writing (Base S Course))
+    (piece : List ℕ) (p : Own (Base S Course) Did) (r : Result (Unit {0}) StepNo) (u : Unit {0})
+    → w ≡ self → IsWriting self → IsNextPiece self piece → wrong_byte w.written piece ≡ None
+    → HasRun 0 (piece_moves probe w piece) (fault_of r) w.core p → r ≡ Ok u
+    → HasWritten probe piece self
+    (record { core = p; target = w.target; written = w.written + length piece })
+has_written_at {S} probe w self piece p r u same writing next right run fine =
+    subst (λ (s : Writing (Base S Course)). IsWriting s → IsNextPiece s piece
+    → HasWritten probe piece s
+    (record { core = p; target = w.target; written = w.written + length piece })) same
+    (λ writing next. has_written probe w piece writing next right p
+    (ran_ok 0 (piece_moves probe w piece) r u w.core p fine run)) writing next

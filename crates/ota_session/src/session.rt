@@ -86,15 +86,17 @@ fn sectors_of(length: u32) -> u32
 }
 
 /// The first byte of the session, where this piece has it and it is not that of an image.
+#[tactic(auto, unfolding(crate::specs::SessionTold::wrong_byte))]
 fn wrong_byte(written: u32, piece: &[u8]) -> Option<u8>
     ensures exact { result ≡ wrong_byte written piece.now }
 {
-    if written != 0 {
+    let [byte, ..] = piece else {
         return None;
-    }
-    match piece.first() {
-        Some(byte) if *byte != MAGIC => Some(*byte),
-        _ => None,
+    };
+    if written == 0 && *byte != MAGIC {
+        Some(*byte)
+    } else {
+        None
     }
 }
 
