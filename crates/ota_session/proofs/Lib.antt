@@ -1,7 +1,13 @@
 -- Base first. Crates above cite these lemmas.
 pub mod NumberLemmas
-pub mod GoodLemmas
-pub mod CourseLemmas
-pub mod BootLemmas
+pub mod ImageLemmas
 pub mod PartLemmas
+pub mod ViewLemmas
+pub mod OpeningLemmas
+pub mod BootLemmas
 pub mod ReadLemmas
+pub mod MomentLemmas
+pub mod MoveLemmas
+pub mod StageLemmas
+pub mod EntryLemmas
+pub mod SealLemmas
