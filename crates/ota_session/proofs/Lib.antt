@@ -10,4 +10,5 @@ pub mod MomentLemmas
 pub mod MoveLemmas
 pub mod StageLemmas
 pub mod EntryLemmas
+pub mod ReadBackLemmas
 pub mod SealLemmas

@@ -111,10 +111,8 @@ can_seal {S} v is =
     let size : v.target.size ≡ w.row.size = ap (λ (t : Target). t.size) w.target_is in
     let whole : bad w.row.size w.image ≡ None =
     sym (λ i. bad (size i) (same i)) ∙ is.whole in
-    let marked : take 1 w.image ≡ 0xE9 ∷ [] =
-    ap (λ (l : List ℕ). take 1 l) (sym same) ∙ is.marked in
     let split : driver_steps w.layout w.aim w.image ≡ done ++ entry =
-    data_front w.layout w.aim w.row w.image w.row_is marked
+    data_front w.layout w.aim w.row w.image w.row_is w.marked
     ∙ ap (λ (found : Option BadImage). done ++ sealed_steps found [] entry) whole in
     subst (λ (t : Target). CanAnnounce t.otadata t.next v.core) (sym w.target_is)
     (announces w.layout (Install w.aim w.image) done (next_rewrite w.aim) v.core d
