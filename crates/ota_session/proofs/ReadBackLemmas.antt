@@ -146,6 +146,19 @@ module _ {D S : Type 0}
         ∙ sym (get_or-take (length out) (drop n w.image) i 0 inside ∙ get_or-drop n w.image i 0))
         ∙ ap (λ (l : List ℕ). take (length out) (drop n l)) (sym (same target o w))
 
+  -- the same by the answer of the read
+  pub fed_image : (target : Target) (o : Own (Base S Course) Did) (n count : ℕ) (out : List ℕ)
+      (r : Result (Unit {0}) StepNo) (u : Unit {0}) → IsWritten target o → length out ≡ count
+      → n + count ≤ target.length → r ≡ Ok u
+      → OnOk r (AreBytesOf Stood (λ h. bytes h.dev) o.base o.core o.share (target.at + n) out)
+      → out ≡ take count (drop n (image_of o.base))
+  fed_image target o n count out r u w size within fine read =
+      read_image target o w n out (omega arith)
+      (subst (λ (x : Result (Unit {0}) StepNo).
+      OnOk x (AreBytesOf Stood (λ h. bytes h.dev) o.base o.core o.share (target.at + n) out)) fine
+      read)
+      ∙ ap (λ (m : ℕ). take m (drop n (image_of o.base))) size
+
 -- ---- period by period
 
 -- the first period of a read, and those behind it

@@ -42,7 +42,7 @@ pub(crate) fn read_back<'w, 'a, R: Wait, D: Crash>(
     while done < target.length {
         let count = (target.length - done).min(PERIOD);
         let out = &mut buffer[..count as usize];
-        let (next, asked) = feed_period(rt, core, target, done, out, &mut verifier);
+        let (next, asked) = feed_period(rt, core, target, done, count, out, &mut verifier);
         core = next;
         if let Err(no) = asked {
             return (core, Err(no));
@@ -52,21 +52,23 @@ pub(crate) fn read_back<'w, 'a, R: Wait, D: Crash>(
     (core, Ok(fault_of_all(verifier)))
 }
 
-/// Reads the next bytes back, and hands them to the verifier.
+/// Reads so many of the next bytes back, and hands them to the verifier.
 fn feed_period<'w, 'a, R: Wait, D: Crash>(
     rt: &R,
     core: Core<'w, D, UpdateDuty<'a>>,
     target: &Target,
     done: u32,
+    count: u32,
     out: &mut [u8],
     verifier: &mut Verifier,
 ) -> (Core<'w, D, UpdateDuty<'a>>, Result<(), StepNo>)
     requires written { IsWritten target.now core }
-    requires within { done + length out.old ≤ target.now.length }
-    ensures ran { HasRun 0 (read_moves (length out.old)) (fault_of result.1) core.entry result.0 }
+    requires within { done + count ≤ target.now.length }
+    requires long { length out.old ≡ count }
+    ensures ran { HasRun 0 (read_moves count) (fault_of result.1) core.entry result.0 }
     ensures fed { OnOk result.1 ((limit : ℕ) (bytes : List ℕ) → HasRead verifier.old limit bytes
         → HasRead verifier.new limit
-        (bytes ++ take (length out.old) (drop done (image_of core.entry.base)))) }
+        (bytes ++ take count (drop done (image_of core.entry.base)))) }
 {
     let (core, asked) = read(rt, core, target.at + done, out);
     if let Err(no) = asked {
