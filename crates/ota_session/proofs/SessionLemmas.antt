@@ -3,9 +3,8 @@
 use Rattle.std.proofs.Common.{◌≡◌, ◌⊎◌, inl, inr, ℕ, ◌+◌, ◌-◌, ◌*◌, ◌/◌, ◌%◌, ◌<◌, ◌≤◌, Bool, true, false, List, [], ◌∷◌, ◌++◌, length, take, drop, Option, Some, None, refl, sym, ap, ◌∙◌, subst, arith, append_assoc, append-nil, length-take, length-drop}
 use Rattle.std.specs.Prelude.{◌==◌, if◌then◌else◌, slice_get}
 use Rattle.std.proofs.lemmas.Bool.{cases_lt}
-use Rattle.std.proofs.lemmas.List.{take-append-drop}
+use Rattle.std.proofs.lemmas.List.{drop-drop, take-append-drop}
 use Rattle.std.proofs.Math.ListN.{drop_of_length-le}
-use Rattle.std.proofs.Math.Seq.{drop-drop}
 use Rattle.nor_device.specs.declared.step.Step.{Step}
 use Rattle.partition_table.specs.declared.row.Row.{Row}
 use Rattle.partition_table.specs.Layout.{Places}
@@ -53,10 +52,10 @@ module _ (layout : Places) (aim : Aim) (probe : Option ℕ)
   row_steps row [] = ap (λ (l : List Step). l ++ []) (no_erases row.offset)
   row_steps row (byte ∷ bytes) = by (byte == 0xE9)
     where
-      abbrev image : List ℕ
+      image : List ℕ
       image = byte ∷ bytes
 
-      abbrev found : Option BadImage
+      found : Option BadImage
       found = bad row.size image
 
       by : (mark : Bool) → slot_erases row.offset image
@@ -147,7 +146,7 @@ module _ (probe : Option ℕ) (otadata : ℕ) (row : Row) (next : Rewrite) (imag
       rest = drop (length piece) (drop n image)
 
       rest_is : drop (n + length piece) image ≡ drop (length piece) (drop n image)
-      rest_is = drop-drop n (length piece) image
+      rest_is = sym (drop-drop (length piece) n image)
 
       place : row.offset + n + length piece ≡ row.offset + (n + length piece)
       place = omega arith
