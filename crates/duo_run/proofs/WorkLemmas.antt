@@ -150,8 +150,8 @@ module _ {S K P : Type 0} (part : K → ℕ → P) (grants : P → Step → Type
       (sym (drop_at script i action is))
       (worked_stop rows (i + 1) action (drop (suc i) script) why o' a x))
 
-  pub at_stop : (rows : List Row) (script : List Action) (i : ℕ) (action : Action) (refusal : StepNo)
-      (o o' a : Own (Base S K) Did) → slice_get script i ≡ Some action
+  pub at_stop : (rows : List Row) (script : List Action) (i : ℕ) (action : Action)
+      (refusal : StepNo) (o o' a : Own (Base S K) Did) → slice_get script i ≡ Some action
       → IsAt part grants moved rows script i o o'
       → HasActed rows (i + 1) action (fault_of (Err refusal)) o' a
       → HasWorked rows script (fault_of (Err refusal)) o a
