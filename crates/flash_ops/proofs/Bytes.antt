@@ -1,9 +1,8 @@
 -- What was read is what a bus that stands for base and share has there.
-use Rattle.std.proofs.Common.{◌≡◌, ℕ, zero, suc, ◌+◌, ◌-◌, ◌<◌, ◌≤◌, ◌++◌, ◌∙◌, ap, subst, sym, refl, arith, inl, inr, ◌⊎◌, Bool, List, [], ◌∷◌, length, take, drop, Option, Some, None, IfSome, Result, Ok, Err, OnOk, length-take, length-drop, length-append}
+use Rattle.std.proofs.Common.{◌≡◌, ℕ, zero, suc, ◌+◌, ◌-◌, ◌<◌, ◌++◌, ◌∙◌, ap, subst, sym, refl, arith, inl, inr, Bool, List, [], length, drop, Option, Some, None, IfSome, Result, Ok, Err, OnOk, length-take, length-drop, length-append}
 use Rattle.std.specs.Prelude.{slice_index}
 use Rattle.std.proofs.lemmas.Bool.{cases_lt}
-use Rattle.std.proofs.lemmas.List.{get_or-take, get_or-drop, get_or-append_right, take_all}
-use Rattle.std.proofs.lemmas.Slice.{take-put_mid}
+use Rattle.std.proofs.lemmas.List.{get_or-take, get_or-drop, get_or-append_right}
 use Rattle.std.proofs.Math.ListN.{get_or-append}
 use Rattle.core_state.specs.Sharing.{in_order}
 use Rattle.nor_device.specs.declared.step.Step.{Step}

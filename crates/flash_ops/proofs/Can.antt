@@ -1,5 +1,5 @@
 -- What a core can still do behind a first part of the moves.
-use Rattle.std.proofs.Common.{◌≡◌, ℕ, ◌+◌, ◌*◌, ◌≤◌, ◌++◌, ◌∙◌, ap, subst, sym, refl, arith, inl, inr, ◌⊎◌, List, [], ◌∷◌, length, Option, Some, None, Result, Ok, Err, OnOk, append-nil}
+use Rattle.std.proofs.Common.{◌≡◌, ℕ, ◌+◌, ◌≤◌, ◌++◌, ◌∙◌, ap, subst, sym, arith, inl, inr, List, [], ◌∷◌, length, Option, Some, None, Result, Ok, Err, OnOk}
 use Rattle.core_state.specs.declared.registers.Regs.{Regs}
 use Rattle.nor_device.specs.declared.step.Step.{Step}
 use Rattle.nor_device.specs.declared.nor.NorFault.{NorFault}
@@ -10,10 +10,10 @@ use Rattle.bus_hub.specs.declared.did.Did.{Did}
 use Rattle.bus_hub.specs.Hub.{needs, byte_needs}
 use Rattle.bus_hub.specs.Shares.{made, moved_by}
 use Rattle.bus_hub.proofs.Parts.{moved_by-append}
-use Rattle.cache_gate.specs.Own.{Own, Keeps, HasRoom, HasRoomIn, OnBase, IsFirst, IsInside, did, saw}
+use Rattle.cache_gate.specs.Own.{Own, Keeps, HasRoom, HasRoomIn, OnBase, IsFirst, IsInside}
 use Rattle.cache_gate.specs.Rounds.{Spends}
 use Rattle.cache_gate.proofs.Rooms.{room_added, room_left}
-use Rattle.flash_ops.specs.Moves.{Move, Make, Look, Ask, Follows, Stops, Ran, HasRun, makes, looks, steps_of, entries_for, bytes_for}
+use Rattle.flash_ops.specs.Moves.{Move, Make, Look, Ask, Stops, Ran, HasRun, looks, steps_of, entries_for, bytes_for}
 use Rattle.flash_ops.specs.Asked.{GrantsAll, MayMakeAll, HasRoomFor, CanLook, CanRun}
 use Rattle.flash_ops.proofs.Runs.{base_same, steps_of-append, entries_for-append, bytes_for-append, made_more, needs_follows, byte_needs_follows}
 

@@ -1,8 +1,8 @@
 -- Quiet periods, counted one by one.
-use Rattle.std.proofs.Common.{◌≡◌, ℕ, zero, suc, ◌+◌, ◌≤◌, ◌∙◌, ap, subst, sym, refl, arith, Result, Ok, Err}
+use Rattle.std.proofs.Common.{◌≡◌, ℕ, suc, ◌+◌, ◌∙◌, ap, refl, arith, Result, Ok, Err}
 use Rattle.nor_device.specs.declared.nor.NorFault.{NorFault}
 use Rattle.flash_ops.specs.declared.refusal.StepNo.{StepNo}
-use Rattle.flash_ops.specs.Told.{counted, IsCountedUpTo, CountsPeriods, fault_of}
+use Rattle.flash_ops.specs.Told.{counted, CountsPeriods, fault_of}
 
 -- so many periods are left of a whole, and those before them were counted
 pub record Counting (whole left before now : ℕ) : Type 0 where

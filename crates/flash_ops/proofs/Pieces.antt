@@ -1,5 +1,5 @@
 -- Writes, erases and reads in their quiet periods.
-use Rattle.std.proofs.Common.{◌≡◌, ℕ, zero, suc, ◌+◌, ◌-◌, ◌*◌, ◌/◌, ◌%◌, ◌<◌, ◌≤◌, ◌++◌, ◌∙◌, ap, subst, sym, refl, arith, inl, inr, ◌⊎◌, Bool, true, false, List, [], ◌∷◌, length, take, drop, Option, Some, None, append-nil, append_assoc, length-append, length-take, length-drop}
+use Rattle.std.proofs.Common.{◌≡◌, ℕ, zero, suc, ◌+◌, ◌-◌, ◌*◌, ◌/◌, ◌%◌, ◌<◌, ◌≤◌, ◌++◌, ◌∙◌, ap, subst, sym, refl, arith, inl, inr, Bool, true, false, List, [], ◌∷◌, length, take, drop, Option, None, append-nil, append_assoc, length-append, length-take, length-drop}
 use Rattle.std.specs.Prelude.{◌==◌}
 use Rattle.std.proofs.lemmas.Bool.{cases_lt}
 use Rattle.std.proofs.lemmas.Bool.Decides.{nat_tests}
@@ -7,11 +7,11 @@ use Rattle.std.proofs.lemmas.List.{take-append-drop, take_all, take_at}
 use Rattle.std.proofs.Math.Seq.{drop-append_seam}
 use Rattle.std.proofs.Math.ListN.{drop_of_length-le}
 use Rattle.nor_device.specs.declared.step.Step.{Step}
-use Rattle.nor_device.specs.declared.step.Step.TheVariants.{Erase, Program}
+use Rattle.nor_device.specs.declared.step.Step.TheVariants.{Erase}
 use Rattle.flash_steps.specs.Steps.{write_steps, erase_steps, erases, pages_in}
 use Rattle.flash_steps.proofs.WriteLemmas.{count_of_write, pieces_of_write, no_steps}
 use Rattle.flash_steps.proofs.EraseLemmas.{count_of_erase, pieces_of_erase}
-use Rattle.flash_ops.specs.Moves.{Move, Make, Look, Ask, makes, looks, asks, one_by_one, by_sixteen, periods_of, erase_moves, write_moves, read_moves, steps_of, entries_for, bytes_for}
+use Rattle.flash_ops.specs.Moves.{Move, Make, Ask, makes, looks, asks, one_by_one, by_sixteen, periods_of, erase_moves, write_moves, read_moves, steps_of, entries_for, bytes_for}
 use Rattle.flash_ops.proofs.Runs.{steps_of-append, entries_for-append, bytes_for-append, makes-append, steps_of_makes, steps_of_looks, entries_for_makes, bytes_for_makes}
 
 -- ---- quiet periods of at most sixteen steps

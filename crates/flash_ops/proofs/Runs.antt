@@ -1,21 +1,19 @@
 -- Moves one after the other, and what a share shows of them.
-use Rattle.std.proofs.Common.{◌≡◌, ℕ, zero, suc, ◌+◌, ◌*◌, ◌≤◌, ◌++◌, ◌∙◌, ap, subst, sym, refl, arith, inl, inr, ◌⊎◌, List, [], ◌∷◌, length, take, Option, Some, None, Result, Ok, Err, append-nil, append_assoc}
+use Rattle.std.proofs.Common.{◌≡◌, ℕ, zero, suc, ◌+◌, ◌*◌, ◌++◌, ◌∙◌, ap, subst, sym, refl, arith, inl, inr, List, [], ◌∷◌, length, take, Option, Some, None, Result, Ok, Err, append-nil, append_assoc}
 use Rattle.core_state.specs.declared.registers.Regs.{Regs}
 use Rattle.core_state.specs.Registers.{masked}
 use Rattle.nor_device.specs.declared.step.Step.{Step}
 use Rattle.nor_device.specs.declared.nor.NorFault.{NorFault}
 use Rattle.nor_device.specs.declared.nor.NorFault.TheVariants as faults
-use Rattle.park_words.specs.declared.view.Entry.{Entry}
 use Rattle.duo_machine.specs.declared.events.Kind.{Kind}
 use Rattle.bus_hub.specs.declared.did.Did.{Did}
-use Rattle.bus_hub.specs.declared.did.Did.TheVariants.{Opened, Closed, Broken, Fetched, Noted, Denied, Mapping, Unmapping, Missed, Masked}
-use Rattle.bus_hub.specs.declared.reads.FetchNo.{FetchNo}
+use Rattle.bus_hub.specs.declared.did.Did.TheVariants.{Opened, Closed, Broken, Fetched, Denied}
 use Rattle.bus_hub.specs.declared.reads.FetchNo.TheVariants as refusals
 use Rattle.bus_hub.specs.Hub.{needs, byte_needs}
 use Rattle.bus_hub.specs.Shares.{Begun, made, made_by, made_from, open_after, open_from}
 use Rattle.bus_hub.specs.Told.{asked}
 use Rattle.cache_gate.specs.Works.{Works, events_in}
-use Rattle.cache_gate.specs.Own.{Own, Keeps, Adds, HasFetched, HasStepped, did, saw}
+use Rattle.cache_gate.specs.Own.{Own, Keeps, Adds, HasFetched, HasStepped, did}
 use Rattle.cache_gate.proofs.Walks.{works_then, works_none, events_in-append}
 use Rattle.flash_ops.specs.Moves.{Move, Make, Look, Ask, Follows, Stops, Ran, HasRun, makes, looks, asks, steps_of, entries_for, bytes_for}
 use Rattle.flash_ops.specs.Told.{LooksBehind}

@@ -1,4 +1,4 @@
-use Rattle.std.proofs.Common.{◌≡◌, ◌≤◌, ◌<◌, ◌+◌, ◌-◌, ◌/◌, ◌++◌, ◌∙◌, ap, sym, subst, refl, arith, ℕ, suc, List, [], ◌∷◌, Option, Result, Ok, Err}
+use Rattle.std.proofs.Common.{◌≡◌, ◌+◌, ◌-◌, ◌/◌, ◌∙◌, ap, sym, subst, refl, arith, ℕ, suc, List, ◌∷◌, Option, Result, Ok}
 use Rattle.nor_device.specs.declared.step.Step.TheVariants.{Erase}
 use Rattle.nor_device.specs.declared.nor.NorFault.{NorFault}
 use Rattle.flash_ops.specs.Moves.{Move, Make, HasRun, looks, erase_moves}

@@ -1,4 +1,4 @@
-use Rattle.std.proofs.Common.{◌+◌, ◌∙◌, List, length, subst, sym}
+use Rattle.std.proofs.Common.{◌≡◌, ◌+◌, ◌∙◌, Ok, List, subst, sym}
 use Rattle.nor_device.specs.declared.step.Step.{Step}
 use Rattle.flash_steps.specs.Parts.{part_erase_steps}
 use Rattle.flash_steps.specs.Rules.{erase_checked}
@@ -15,7 +15,8 @@ erase_at-requires-clause-can g c =
     let label = c.args.label.now in
     let len = c.args.len in
     let row = c.in-Ok.row in
-    let is = sym c.check_erase.ensures.exact ∙ c.in-Ok.is in
+    let is : erase_checked rows label c.args.offset len ≡ Ok row =
+    sym c.check_erase.ensures.exact ∙ c.in-Ok.is in
     subst (λ (steps : List Step). CanChange d.part d.grants d.moved (row.offset + c.args.offset)
     len steps c.args.core) (erase_part_steps rows label c.args.offset len row is)
     (of_row (erase_checked rows label c.args.offset len) row
@@ -28,7 +29,8 @@ returns-in-Ok-clause-ran g c =
     let label = c.args.label.now in
     let len = c.args.len in
     let row = c.in-Ok.row in
-    let is = sym c.check_erase.ensures.exact ∙ c.in-Ok.is in
+    let is : erase_checked rows label c.args.offset len ≡ Ok row =
+    sym c.check_erase.ensures.exact ∙ c.in-Ok.is in
     if_row (erase_checked rows label c.args.offset len) row
     (λ _. HasChanged c.args.k (part_erase_steps rows label c.args.offset len)
     c.erase_at.result.1 c.args.core c.erase_at.result.0) is

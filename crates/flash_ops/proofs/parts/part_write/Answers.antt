@@ -1,4 +1,4 @@
-use Rattle.std.proofs.Common.{◌+◌, ◌∙◌, List, length, subst, sym}
+use Rattle.std.proofs.Common.{◌≡◌, ◌+◌, ◌∙◌, Ok, List, length, subst, sym}
 use Rattle.nor_device.specs.declared.step.Step.{Step}
 use Rattle.flash_steps.specs.Parts.{part_write_steps}
 use Rattle.flash_steps.specs.Rules.{write_checked}
@@ -15,7 +15,8 @@ write_at-requires g c =
     let label = c.args.label.now in
     let bytes = c.args.bytes.now in
     let row = c.in-Ok.row in
-    let is = sym c.check_write.ensures.exact ∙ c.in-Ok.is in
+    let is : write_checked rows label c.args.offset (length bytes) ≡ Ok row =
+    sym c.check_write.ensures.exact ∙ c.in-Ok.is in
     subst (λ (steps : List Step). CanChange d.part d.grants d.moved (row.offset + c.args.offset)
     (length bytes) steps c.args.core) (write_part_steps rows label c.args.offset bytes row is)
     (of_row (write_checked rows label c.args.offset (length bytes)) row
@@ -28,7 +29,8 @@ returns-in-Ok-clause-ran g c =
     let label = c.args.label.now in
     let bytes = c.args.bytes.now in
     let row = c.in-Ok.row in
-    let is = sym c.check_write.ensures.exact ∙ c.in-Ok.is in
+    let is : write_checked rows label c.args.offset (length bytes) ≡ Ok row =
+    sym c.check_write.ensures.exact ∙ c.in-Ok.is in
     if_row (write_checked rows label c.args.offset (length bytes)) row
     (λ _. HasChanged c.args.k (part_write_steps rows label c.args.offset bytes)
     c.write_at.result.1 c.args.core c.write_at.result.0) is

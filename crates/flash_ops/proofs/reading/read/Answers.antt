@@ -1,9 +1,8 @@
-use Rattle.std.proofs.Common.{◌≡◌, ◌+◌, ◌-◌, ◌≤◌, ◌<◌, ◌++◌, ◌∙◌, ap, sym, subst, refl, arith, ℕ, List, [], ◌∷◌, length, take, drop, length-take, length-drop, Result, Ok, Err, OnOk}
+use Rattle.std.proofs.Common.{◌≡◌, ◌+◌, ◌-◌, ◌∙◌, ap, sym, subst, arith, ℕ, List, [], ◌∷◌, length, take, length-take, Result, Ok, OnOk}
 use Rattle.std.proofs.lemmas.List.{take_all}
 use Rattle.std.proofs.lemmas.Slice.{take-put_mid}
 use borrow.Rule.Slice.PartMut.{mid_of, mid_len}
 use Rattle.nor_device.specs.declared.nor.NorFault.{NorFault}
-use Rattle.cache_gate.specs.Own.{Keeps}
 use Rattle.flash_ops.specs.Moves.{Ask, HasRun, read_moves}
 use Rattle.flash_ops.specs.Shown.{AreBytesOf}
 use Rattle.flash_ops.proofs.Runs.{asks_kept, keeps_same, keeps_then, left_all, left_none, left_stops, left_then}

@@ -1,4 +1,4 @@
-use Rattle.std.proofs.Common.{◌≡◌, ◌-◌, ◌≤◌, ℕ, length, take}
+use Rattle.std.proofs.Common.{◌-◌, ◌≤◌, ℕ, length, take}
 use Rattle.cache_gate.specs.Own.{Keeps}
 use Rattle.flash_ops.specs.Moves.{read_moves}
 use Rattle.flash_ops.specs.Shown.{AreBytesOf}

@@ -1,4 +1,4 @@
-use Rattle.std.proofs.Common.{◌≡◌, ◌≤◌, ◌*◌, arith, ℕ, List, length, None}
+use Rattle.std.proofs.Common.{arith, None}
 use Rattle.flash_steps.specs.Parts.{part_erase_steps}
 use Rattle.flash_steps.specs.Rules.{erase_checked}
 use Rattle.flash_ops.specs.Moves.{makes}

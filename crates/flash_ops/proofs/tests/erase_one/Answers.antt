@@ -1,5 +1,5 @@
-use Rattle.std.proofs.Common.{◌≤◌, ◌≡◌, arith}
-use Rattle.flash_ops.specs.Moves.{entries_for, bytes_for, erase_moves}
+use Rattle.std.proofs.Common.{arith}
+use Rattle.flash_ops.specs.Moves.{erase_moves}
 use Rattle.flash_ops.proofs.Can.{can_each, looks_few, run_spends}
 use Rattle.flash_ops.proofs.Pieces.{bytes_of_erase, entries_of_erase}
 use Rattle.flash_ops.proofs.tests.erase_one.Goals as goal

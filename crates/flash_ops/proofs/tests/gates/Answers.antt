@@ -1,4 +1,4 @@
-use Rattle.std.proofs.Common.{rules, ◌≡◌, ◌∙◌, ◌≤◌, ◌+◌, ℕ, ap, arith, length, sym, subst, lit<, lit≤}
+use Rattle.std.proofs.Common.{rules, ◌≡◌, ◌∙◌, ℕ, ap, arith, length, sym, subst, lit<, lit≤}
 use Rattle.image_layout.specs.declared.space.Space.TheVariants.{Data}
 use Rattle.mmu_map.specs.Map.{Map, IsFreeRun, IsWhole, empty, fixed}
 use Rattle.mmu_map.proofs.Empty.{empty_is_free}

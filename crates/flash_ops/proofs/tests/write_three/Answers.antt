@@ -1,4 +1,4 @@
-use Rattle.std.proofs.Common.{◌≡◌, ◌≤◌, ◌*◌, ◌∙◌, ap, arith, ℕ, List, [], ◌∷◌, length, Option}
+use Rattle.std.proofs.Common.{◌≡◌, ◌≤◌, ◌*◌, ap, arith, ℕ, [], ◌∷◌, length, Option}
 use Rattle.flash_steps.specs.Steps.{write_steps}
 use Rattle.flash_steps.proofs.WriteLemmas.{count_of_write}
 use Rattle.flash_ops.specs.Moves.{bytes_for, entries_for, looks, periods_of, write_moves}

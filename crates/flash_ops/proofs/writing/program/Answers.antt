@@ -1,5 +1,4 @@
-use Rattle.std.proofs.Common.{◌≡◌, ◌+◌, ◌-◌, ◌<◌, ◌^◌, ◌++◌, ◌∙◌, ap, sym, subst, arith, ℕ, List, [], ◌∷◌, length, None, Ok}
-use Rattle.nor_device.specs.declared.step.Step.{Step}
+use Rattle.std.proofs.Common.{◌≡◌, ◌+◌, ◌-◌, ◌++◌, ◌∙◌, ap, sym, subst, arith, ℕ, List, [], ◌∷◌, length, None, Ok}
 use Rattle.nor_device.specs.Flash.{end_of}
 use Rattle.cache_gate.specs.Own.{IsInside}
 use Rattle.flash_steps.specs.Steps.{write_steps}
