@@ -1,5 +1,5 @@
 -- The rewrite of an entry on a core: what it asks, and what it leaves.
-use Rattle.std.proofs.Common.{◌≡◌, ℕ, ◌+◌, ◌*◌, ◌%◌, ◌^◌, ◌<◌, ◌≤◌, List, [], ◌∷◌, ◌++◌, length, Option, Some, None, Result, Ok, Err, refl, sym, ap, ◌∙◌, subst, arith}
+use Rattle.std.proofs.Common.{◌≡◌, ℕ, ◌+◌, ◌*◌, ◌%◌, List, ◌++◌, length, Option, Result, Ok, Err, sym, ap, ◌∙◌, subst}
 use Rattle.nor_device.specs.declared.step.Step.{Step}
 use Rattle.nor_device.specs.declared.nor.NorFault.TheVariants.{Failed, Off}
 use Rattle.otadata.specs.Entry.{entry_bytes}
@@ -12,7 +12,7 @@ use Rattle.flash_ops.specs.Asked.{CanLook, CanRun, HasRoomFor, MayMakeAll}
 use Rattle.flash_ops.specs.declared.refusal.StepNo.{StepNo}
 use Rattle.flash_ops.specs.declared.refusal.StepNo.TheVariants as steps
 use Rattle.flash_ops.specs.Told.{fault_of}
-use Rattle.flash_ops.specs.Moves.{HasRun, Move, erase_moves, steps_of, write_moves}
+use Rattle.flash_ops.specs.Moves.{HasRun, Move, erase_moves, write_moves}
 use Rattle.flash_ops.proofs.Can.{can_first, can_then}
 use Rattle.flash_ops.proofs.Runs.{run_stops, run_then}
 use Rattle.ota_session.specs.Course.{Course, Grants, part_after, part_of}

@@ -1,9 +1,8 @@
 -- The steps of a session's moves, one stage after the other.
-use Rattle.std.proofs.Common.{◌≡◌, ◌≢◌, ◌⊎◌, inl, inr, ℕ, zero, suc, ◌+◌, ◌*◌, ◌/◌, ◌%◌, ◌<◌, ◌≤◌, Bool, true, false, List, [], ◌∷◌, ◌++◌, length, take, drop, Option, Some, None, refl, sym, ap, ◌∙◌, subst, arith, append_assoc, append-nil, length-take}
+use Rattle.std.proofs.Common.{◌≡◌, ◌⊎◌, inl, inr, ℕ, ◌+◌, ◌*◌, ◌/◌, ◌%◌, ◌≤◌, Bool, true, false, List, [], ◌∷◌, ◌++◌, length, take, drop, Option, Some, None, refl, sym, ap, ◌∙◌, subst, arith, append_assoc, append-nil, length-take}
 use Rattle.std.specs.Prelude.{◌==◌, if◌then◌else◌, slice_get}
 use Rattle.std.proofs.lemmas.List.{take-append-drop, take_all}
 use Rattle.std.proofs.Math.Seq.{take-add}
-use Rattle.std.proofs.Math.ListN.{drop_of_length-le}
 use Rattle.nor_device.specs.declared.step.Step.{Step}
 use Rattle.nor_device.specs.declared.step.Step.TheVariants.{Erase, Program}
 use Rattle.partition_table.specs.declared.row.Row.{Row}
@@ -15,14 +14,14 @@ use Rattle.image_verify.specs.Bad.{bad}
 use Rattle.boot_run.specs.declared.aims.Aim.{Aim}
 use Rattle.boot_run.specs.Rewriting.{rewrite}
 use Rattle.flash_steps.specs.Steps.{erase_steps, erases, write_steps}
-use Rattle.flash_steps.proofs.WriteLemmas.{no_steps, one_program, pieces_of_write}
+use Rattle.flash_steps.proofs.WriteLemmas.{one_program, pieces_of_write}
 use Rattle.flash_steps.proofs.EraseLemmas.{one_erase}
 use Rattle.update_steps.specs.Driver.{data_steps, driver_steps, image_steps, next_rewrite, sealed_steps, slot_erases, whole_sectors}
 use Rattle.update_steps.proofs.SessionLemmas.{driver_is}
-use Rattle.flash_ops.specs.Moves.{Move, erase_moves, read_moves, steps_of, write_moves}
+use Rattle.flash_ops.specs.Moves.{erase_moves, steps_of, write_moves}
 use Rattle.flash_ops.proofs.Runs.{steps_of-append}
-use Rattle.flash_ops.proofs.Pieces.{steps_of_erase, steps_of_read, steps_of_write}
-use Rattle.ota_session.specs.Stages.{IsPartWritten, begin_moves, closing_moves, confirm_moves, entry_moves, image_moves, in_slot, session_moves, slot_moves}
+use Rattle.flash_ops.proofs.Pieces.{steps_of_erase, steps_of_write}
+use Rattle.ota_session.specs.Stages.{begin_moves, entry_moves, in_slot, slot_moves}
 
 -- ---- a piece of the image behind others
 

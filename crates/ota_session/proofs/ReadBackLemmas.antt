@@ -1,35 +1,31 @@
 -- The bytes that are read back from the slot are those of the image.
-use Rattle.std.proofs.Common.{◌≡◌, inl, inr, ℕ, ◌+◌, ◌-◌, ◌*◌, ◌/◌, ◌%◌, ◌^◌, ◌<◌, ◌≤◌, Bool, List, [], ◌∷◌, ◌++◌, length, take, drop, slice_index, Option, Some, None, Result, Ok, Err, OnOk, refl, sym, ap, ◌∙◌, subst, arith, append-nil, length-take, length-drop}
+use Rattle.std.proofs.Common.{◌≡◌, inl, inr, ℕ, ◌+◌, ◌-◌, ◌^◌, ◌<◌, ◌≤◌, Bool, List, [], ◌∷◌, ◌++◌, length, take, drop, slice_index, Option, Some, Result, Ok, Err, OnOk, refl, sym, ap, ◌∙◌, subst, arith, append-nil, length-take, length-drop}
 use Rattle.std.specs.Prelude.{slice_get}
 use Rattle.std.proofs.lemmas.Bool.{cases_lt}
 use Rattle.std.proofs.lemmas.List.{ext_get_or, get_or-drop, get_or-take, take_all}
 use Rattle.std.proofs.Math.Seq.{take-add}
-use Rattle.core_state.specs.Sharing.{in_order}
 use Rattle.nor_device.specs.declared.step.Step.{Step}
 use Rattle.nor_device.specs.declared.nor.StepEnd.{StepEnd}
 use Rattle.nor_device.specs.declared.nor.NorFault.{NorFault}
-use Rattle.partition_table.specs.declared.row.Row.{Row}
-use Rattle.partition_table.specs.Layout.{Places}
 use Rattle.image_verify.specs.declared.reader.Reader.{Reader}
 use Rattle.image_verify.specs.Fed.{HasRead}
-use Rattle.boot_run.specs.declared.aims.Aim.{Aim}
 use Rattle.boot_run.specs.Rewriting.{rewrite}
 use Rattle.bus_hub.specs.declared.did.Base.{Base}
 use Rattle.bus_hub.specs.declared.did.Did.{Did}
 use Rattle.bus_hub.specs.Hub.{Hub}
-use Rattle.cache_gate.specs.Own.{IsInside, OnBase, Own}
+use Rattle.cache_gate.specs.Own.{IsInside, Own}
 use Rattle.image_verify.specs.Bad.{bad}
-use Rattle.update_steps.specs.Driver.{data_steps, driver_steps, next_rewrite, sealed_steps}
+use Rattle.update_steps.specs.Driver.{data_steps, next_rewrite, sealed_steps}
 use Rattle.flash_ops.specs.declared.refusal.StepNo.{StepNo}
 use Rattle.flash_ops.specs.Told.{fault_of}
 use Rattle.flash_ops.specs.Moves.{Ask, HasRun, Move, read_moves, steps_of}
-use Rattle.flash_ops.specs.Shown.{AreBytesOf, IsByteOf}
+use Rattle.flash_ops.specs.Shown.{AreBytesOf}
 use Rattle.flash_ops.proofs.Pieces.{read_next, read_nothing, steps_of_read}
 use Rattle.flash_ops.proofs.Runs.{Left, base_same, left_all, left_none, left_stops, left_then}
-use Rattle.ota_session.specs.Course.{Course, Install, course_from}
+use Rattle.ota_session.specs.Course.{Course, Install}
 use Rattle.ota_session.specs.declared.target.Target.{Target}
-use Rattle.ota_session.specs.Stages.{Drives, IsWritten, image_of, target_of}
-use Rattle.ota_session.specs.SessionTold.{cause_of, found_as}
+use Rattle.ota_session.specs.Stages.{IsWritten, image_of}
+use Rattle.ota_session.specs.SessionTold.{cause_of}
 use Rattle.ota_session.proofs.MoveLemmas.{data_front}
 use Rattle.ota_session.proofs.ReadLemmas.{StandsBy, slot_byte}
 use Rattle.ota_session.proofs.StageLemmas.{IsSlot, drives_as, drives_inside, drives_more, image_is, ran_err, ran_ok, slot}

@@ -1,6 +1,5 @@
 -- The entry of a session, and of a confirmation: what its rewrite asks.
-use Rattle.std.proofs.Common.{◌≡◌, ◌≢◌, inl, inr, ℕ, ◌+◌, ◌*◌, ◌%◌, ◌^◌, ◌<◌, ◌≤◌, List, [], ◌∷◌, ◌++◌, length, take, Option, Some, None, IfSome, IfOk, Result, Ok, Err, refl, sym, ap, ◌∙◌, subst, arith, append-nil}
-use Rattle.std.specs.Prelude.{slice_get}
+use Rattle.std.proofs.Common.{◌≡◌, ◌≢◌, inl, inr, ℕ, ◌+◌, ◌%◌, ◌^◌, ◌<◌, List, [], ◌∷◌, ◌++◌, length, take, Option, Some, None, IfSome, IfOk, Result, Ok, Err, refl, sym, ap, ◌∙◌, subst, arith, append-nil}
 use Rattle.std.proofs.lemmas.List.{take_all}
 use Rattle.nor_device.specs.declared.step.Step.{Step}
 use Rattle.partition_table.specs.declared.row.Row.{Row}
@@ -8,10 +7,8 @@ use Rattle.partition_table.specs.Layout.{IsPlaced, Places}
 use Rattle.otadata.proofs.ChoiceLemmas.{active-lt}
 use Rattle.boot_select.specs.Boots.{entries_in}
 use Rattle.rollback.specs.declared.rewrite.Rewrite.{Rewrite}
-use Rattle.rollback.specs.Rewrite.{restated}
 use Rattle.image_verify.specs.declared.bad.BadImage.{BadImage}
 use Rattle.image_verify.specs.Bad.{bad}
-use Rattle.boot_run.specs.declared.aims.Aim.{Aim}
 use Rattle.boot_run.specs.Rewriting.{rewrite}
 use Rattle.bus_hub.specs.declared.did.Base.{Base}
 use Rattle.bus_hub.specs.declared.did.Did.{Did}
@@ -26,10 +23,10 @@ use Rattle.flash_ops.specs.declared.refusal.StepNo.TheVariants as steps
 use Rattle.flash_ops.specs.Moves.{HasRun, Move, read_moves}
 use Rattle.flash_ops.proofs.Pieces.{steps_of_read}
 use Rattle.flash_ops.proofs.Runs.{base_same}
-use Rattle.ota_session.specs.Course.{Confirm, Confirms, Course, Grants, Install, IsFor, IsMadeFor, Purpose, course_from, part_after, part_of, steps_for}
+use Rattle.ota_session.specs.Course.{Confirm, Confirms, Course, Grants, Install, IsFor, Purpose, part_after, part_of, steps_for}
 use Rattle.ota_session.specs.GoodLaws.{placed}
 use Rattle.ota_session.specs.declared.target.Target.{Target}
-use Rattle.ota_session.specs.Stages.{Drives, IsToConfirm, IsVerified, IsWriting, IsWritten, Verified, Writing, confirm_moves, entry_moves, image_of, target_of}
+use Rattle.ota_session.specs.Stages.{Drives, IsToConfirm, IsVerified, IsWriting, IsWritten, Verified, Writing, confirm_moves, entry_moves, image_of}
 use Rattle.ota_session.specs.SessionTold.{HasVerified, IsNotVerified, cause_of, found_as, unread_by}
 use Rattle.ota_session.specs.declared.refusal.EndNo.{EndNo}
 use Rattle.ota_session.specs.declared.refusal.EndNo.TheVariants as ends

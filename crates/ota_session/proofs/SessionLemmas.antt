@@ -1,8 +1,7 @@
 -- All moves of a session that is driven to its end: their steps are the driver's, and piece by piece
 -- they go on where the last one ended.
-use Rattle.std.proofs.Common.{◌≡◌, ◌⊎◌, inl, inr, ℕ, ◌+◌, ◌-◌, ◌*◌, ◌/◌, ◌%◌, ◌<◌, ◌≤◌, Bool, true, false, List, [], ◌∷◌, ◌++◌, length, take, drop, Option, Some, None, refl, sym, ap, ◌∙◌, subst, arith, append_assoc, append-nil, length-take, length-drop}
+use Rattle.std.proofs.Common.{◌≡◌, ◌⊎◌, inl, inr, ℕ, ◌+◌, ◌%◌, ◌≤◌, Bool, true, false, List, [], ◌∷◌, ◌++◌, length, take, drop, Option, Some, None, refl, sym, ap, ◌∙◌, subst, arith, append_assoc, append-nil}
 use Rattle.std.specs.Prelude.{◌==◌, if◌then◌else◌, slice_get}
-use Rattle.std.proofs.lemmas.Bool.{cases_lt}
 use Rattle.std.proofs.lemmas.List.{drop-drop, take-append-drop}
 use Rattle.std.proofs.Math.ListN.{drop_of_length-le}
 use Rattle.nor_device.specs.declared.step.Step.{Step}
@@ -16,10 +15,10 @@ use Rattle.boot_run.specs.declared.aims.Aim.{Aim}
 use Rattle.boot_run.specs.Rewriting.{rewrite}
 use Rattle.flash_steps.specs.Steps.{erase_steps, write_steps}
 use Rattle.update_steps.specs.Driver.{data_steps, driver_steps, image_steps, next_rewrite, sealed_steps, slot_erases, steps_to, whole_sectors}
-use Rattle.flash_ops.specs.Moves.{Move, erase_moves, read_moves, steps_of, write_moves}
+use Rattle.flash_ops.specs.Moves.{Move, read_moves, steps_of, write_moves}
 use Rattle.flash_ops.proofs.Runs.{steps_of-append}
 use Rattle.flash_ops.proofs.Pieces.{steps_of_erase, steps_of_read, steps_of_write, write_nothing, write_pieces}
-use Rattle.ota_session.specs.Stages.{begin_moves, closing_moves, confirm_moves, entry_moves, image_moves, in_slot, session_moves, slot_moves}
+use Rattle.ota_session.specs.Stages.{begin_moves, closing_moves, entry_moves, image_moves, in_slot, session_moves, slot_moves}
 use Rattle.ota_session.proofs.MoveLemmas.{no_erases, steps_of_entry}
 
 -- ---- their steps

@@ -1,14 +1,11 @@
 -- From one stage of a session to the next: what a core may do, and what holds once it is done.
-use Rattle.std.proofs.Common.{◌≡◌, ◌≢◌, ◌⊎◌, inl, inr, ℕ, zero, suc, ◌+◌, ◌-◌, ◌*◌, ◌/◌, ◌%◌, ◌^◌, ◌<◌, ◌≤◌, Bool, true, false, List, [], ◌∷◌, ◌++◌, length, take, drop, Option, Some, None, IfSome, IsSome, Result, Ok, Err, refl, sym, ap, ◌∙◌, subst, arith, append_assoc, append-nil, length-take}
+use Rattle.std.proofs.Common.{◌≡◌, ◌⊎◌, inl, inr, ℕ, zero, suc, ◌+◌, ◌%◌, ◌^◌, ◌<◌, ◌≤◌, Bool, true, false, List, [], ◌∷◌, ◌++◌, length, take, drop, Option, Some, None, IfSome, IsSome, Result, Ok, Err, refl, sym, ap, ◌∙◌, subst, arith, append_assoc, append-nil}
 use Rattle.std.specs.Prelude.{◌==◌, not, if◌then◌else◌, slice_get}
 use Rattle.std.proofs.lemmas.Bool.Decides.{nat_tests}
 use Rattle.nor_device.specs.declared.step.Step.{Step}
-use Rattle.nor_device.specs.declared.nor.NorFault.{NorFault}
 use Rattle.partition_table.specs.declared.app.App.TheVariants.{Ota}
 use Rattle.partition_table.specs.declared.row.Row.{Row}
-use Rattle.partition_table.specs.Layout.{IsPlaced, Places, row_for}
-use Rattle.otadata.specs.Entry.{entry_bytes}
-use Rattle.rollback.specs.declared.rewrite.Rewrite.{Rewrite}
+use Rattle.partition_table.specs.Layout.{Places, row_for}
 use Rattle.image_verify.specs.Bad.{bad}
 use Rattle.boot_run.specs.declared.aims.Aim.{Aim}
 use Rattle.boot_run.proofs.FrameLemmas.{stands_inside}
@@ -18,18 +15,17 @@ use Rattle.bus_hub.specs.declared.did.Did.{Did}
 use Rattle.cache_gate.specs.Own.{IsInside, Own}
 use Rattle.flash_steps.specs.Steps.{write_steps}
 use Rattle.flash_steps.proofs.WriteLemmas.{no_steps}
-use Rattle.update_steps.specs.Driver.{data_steps, driver_steps, next_rewrite, sealed_steps, slot_erases, whole_sectors}
-use Rattle.update_steps.specs.Session.{IsOpening}
+use Rattle.update_steps.specs.Driver.{next_rewrite, sealed_steps, slot_erases, whole_sectors}
 use Rattle.update_steps.proofs.DataLemmas.{aligned_row, sectors_fit}
 use Rattle.flash_ops.specs.Asked.{CanLook, CanRun, HasRoomFor, MayMakeAll}
 use Rattle.flash_ops.specs.declared.refusal.StepNo.{StepNo}
 use Rattle.flash_ops.specs.declared.refusal.StepNo.TheVariants as steps
 use Rattle.flash_ops.specs.Told.{fault_of}
-use Rattle.flash_ops.specs.Moves.{HasRun, Move, erase_moves, read_moves, steps_of, write_moves}
+use Rattle.flash_ops.specs.Moves.{HasRun, Move, erase_moves, steps_of}
 use Rattle.flash_ops.proofs.Runs.{made_more}
 use Rattle.flash_ops.proofs.Pieces.{steps_of_write}
-use Rattle.ota_session.specs.Course.{Confirm, Confirms, Course, Grants, Install, Installs, IsFor, Purpose, course_from, part_after, part_of, steps_for}
-use Rattle.ota_session.specs.Stages.{Drives, IsNextPiece, IsOpen, IsPartWritten, IsWriting, IsWritten, Writing, begin_moves, image_for, image_of, in_slot, slot_moves, target_of}
+use Rattle.ota_session.specs.Course.{Course, Grants, Install, Installs, IsFor, Purpose, part_after, part_of, steps_for}
+use Rattle.ota_session.specs.Stages.{Drives, IsNextPiece, IsOpen, IsWriting, Writing, begin_moves, image_for, image_of, in_slot, slot_moves, target_of}
 use Rattle.ota_session.specs.SessionTold.{cause_of, HasBegun, HasWritten, piece_moves, wrong_byte}
 use Rattle.ota_session.specs.declared.target.Target.{Target}
 use Rattle.ota_session.proofs.MoveLemmas.{data_front, erases_front, steps_of_begin, write_front, write_next}

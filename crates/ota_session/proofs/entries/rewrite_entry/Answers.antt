@@ -1,5 +1,5 @@
 -- The erase and the program are the steps of the rewrite, one behind the other.
-use Rattle.std.proofs.Common.{◌+◌, ◌*◌, ap, ◌∙◌}
+use Rattle.std.proofs.Common.{◌+◌, ◌*◌, ap}
 use Rattle.ota_session.proofs.EntryLemmas.{can_erase, can_program, has_rewritten, not_erased}
 use Rattle.ota_session.proofs.entries.rewrite_entry.Goals as goal
 

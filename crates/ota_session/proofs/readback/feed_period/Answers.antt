@@ -1,5 +1,5 @@
 -- The read lies in the slot, and what it gives are the next bytes of the image.
-use Rattle.std.proofs.Common.{◌≡◌, ◌++◌, ◌+◌, ◌≤◌, ℕ, List, Result, Ok, Err, length, sym, ap, subst, arith}
+use Rattle.std.proofs.Common.{◌++◌, ℕ, List, Result, length, subst, arith}
 use Rattle.image_verify.specs.Fed.{HasRead}
 use Rattle.flash_ops.specs.declared.refusal.StepNo.{StepNo}
 use Rattle.flash_ops.specs.Moves.{HasRun, read_moves}

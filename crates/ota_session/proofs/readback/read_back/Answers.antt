@@ -1,9 +1,9 @@
 -- Each period goes on where the last one ended, until all bytes were handed to the verifier.
-use Rattle.std.proofs.Common.{◌≡◌, ◌-◌, ◌≤◌, ◌<◌, ◌++◌, ℕ, List, Result, Ok, Err, OnOk, drop, take, subst, arith}
+use Rattle.std.proofs.Common.{◌++◌, ℕ, List, Result, OnOk, drop, take, subst, arith}
 use Rattle.image_verify.specs.Fed.{HasRead}
 use Rattle.flash_ops.specs.declared.refusal.StepNo.{StepNo}
 use Rattle.ota_session.specs.Stages.{image_of}
-use Rattle.ota_session.proofs.ReadBackLemmas.{fed_all, fed_more, fed_none, fed_ran, fed_stops}
+use Rattle.ota_session.proofs.ReadBackLemmas.{fed_all, fed_more, fed_ran, fed_stops}
 use Rattle.ota_session.proofs.readback.read_back.Goals as goal
 
 pub returns-in-Err-clause-ran : goal.returns-in-Err-clause-ran
