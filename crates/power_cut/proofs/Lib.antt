@@ -7,3 +7,4 @@ pub mod LegLemmas
 pub mod MergeLemmas
 pub mod InstalledLemmas
 pub mod EmptyLemmas
+pub mod OpensLemmas
