@@ -7,7 +7,6 @@ use Rattle.nor_device.specs.declared.nor.NorFault.TheVariants.{Off}
 use Rattle.nor_device.specs.Ram.{Ram}
 use Rattle.crash_images.specs.declared.cut.CutSetting.{CutSetting}
 use Rattle.crash_images.specs.Cut.{CutDevice, IsAhead}
-use Rattle.partition_table.specs.declared.bad.TableBad.{TableBad}
 use Rattle.partition_table.specs.Layout.{Places, layout_in}
 use Rattle.boot_select.specs.Boots.{entries_in, images_in}
 use Rattle.rollback.proofs.PairLemmas.{boots_holds}

@@ -1,5 +1,5 @@
 -- An update from leg to leg: what each leg finds, and what is left where it is the last.
-use Rattle.std.proofs.Common.{◌≡◌, ◌≢◌, ◌⊎◌, ◌↔◌, inl, inr, Bool, true, false, ℕ, ◌==◌, ◌<◌, ◌^◌, List, [], ◌∷◌, ◌++◌, length, Option, Some, None, Result, Ok, Err, refl, sym, ap, ◌∙◌, subst, arith}
+use Rattle.std.proofs.Common.{◌≡◌, ◌≢◌, ◌⊎◌, inl, inr, Bool, true, false, ℕ, ◌==◌, ◌<◌, ◌^◌, List, [], ◌∷◌, length, Option, Some, None, Result, Ok, Err, refl, sym, ap, ◌∙◌, subst, arith}
 use Rattle.std.specs.Prelude.{◌&&◌, nat_lt, if◌then◌else◌, IfOk}
 use Rattle.std.specs.Borrow.{Bor}
 use Rattle.std.proofs.lemmas.Bool.{cases_Bool}
@@ -13,18 +13,15 @@ use Rattle.crash_images.specs.Cut.{CutDevice, IsAhead, restarted, unspent_of}
 use Rattle.crash_images.specs.Crash.{LeftAfter}
 use Rattle.partition_table.specs.declared.app.App.{App}
 use Rattle.partition_table.specs.Layout.{IsPlaced, Places}
-use Rattle.otadata.specs.declared.entry.Entry.{Entry}
 use Rattle.otadata.specs.Entry.{IsStored}
-use Rattle.boot_select.specs.Boots.{entries_in, images_in}
+use Rattle.boot_select.specs.Boots.{entries_in}
 use Rattle.rollback.specs.declared.rewrite.Rewrite.{Rewrite}
-use Rattle.rollback.specs.Boot.{boot_writes}
 use Rattle.rollback.specs.Boots.{boots_in}
 use Rattle.rollback.specs.Rewrite.{restated, with_state}
 use Rattle.image_layout.specs.Whole.{Whole}
 use Rattle.image_verify.specs.declared.bad.BadImage.{BadImage}
 use Rattle.image_verify.specs.Bad.{bad}
 use Rattle.image_verify.specs.Held.{held}
-use Rattle.bus_hub.specs.Room.{Kept}
 use Rattle.boot_run.specs.declared.aims.Aim.{Aim}
 use Rattle.boot_run.specs.declared.booted.Booted.{Booted}
 use Rattle.boot_run.specs.Rewriting.{rewrite, rewrites}
@@ -37,10 +34,10 @@ use Rattle.power_cut.specs.declared.legs.Ran.{Ran}
 use Rattle.power_cut.specs.declared.legs.Upto.{Upto}
 use Rattle.power_cut.specs.declared.legs.Upto.TheVariants.{Session, Boot, Confirm}
 use Rattle.power_cut.specs.declared.outcome.Trial.{Trial}
-use Rattle.power_cut.specs.Device.{HasEnd, IsRan, IsReady, IsUnbroken, IsWholeEnd, is_off, running_in}
-use Rattle.power_cut.specs.Update.{BootsEither, Opens, image_of, sealed_end, session_end, slot_size}
+use Rattle.power_cut.specs.Device.{HasEnd, IsReady, IsWholeEnd, running_in}
+use Rattle.power_cut.specs.Update.{BootsEither, Opens, sealed_end, session_end, slot_size}
 use Rattle.power_cut.specs.Kept.{IsStarted, KeepsConfirm, KeepsSession, MayConfirm}
-use Rattle.power_cut.specs.Whole.{AreDone, BehindBoot, BehindSession, BootsNew, EndsWith, HasBooted, IsBootLeg, IsClosed, IsOutcome, IsTrial, boot_steps, confirm_of, is_done, wants_boot, wants_confirm}
+use Rattle.power_cut.specs.Whole.{AreDone, BehindBoot, BehindSession, BootsNew, EndsWith, HasBooted, IsBootLeg, IsClosed, IsOutcome, boot_steps, confirm_of, is_done, wants_boot, wants_confirm}
 use Rattle.power_cut.specs.Behind.{IsAnnounced, IsBehind}
 use Rattle.power_cut.proofs.BehindLemmas.{announced_active, announced_boots, announced_writes, behind_boots, behind_some, beside_behind, beside_here, booted_first, booted_waits, confirmed_new, confirming, left_behind, session_announced, two, waiting}
 

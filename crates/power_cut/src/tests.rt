@@ -153,7 +153,10 @@ fn an_update_of_nothing_boots_what_ran(rt: HostRuntime) -> Result<(), Fail> {
         steps: 0,
         end: LegEnd::Empty,
     };
-    assert_eq!(rt; told(&after_nothing(alloc, flash)), Some((1, leg, App::Factory, 80)));
+    assert_eq!(rt;
+        told(&after_nothing(alloc, flash)),
+        Some((1, leg, App::Factory, 80))
+    );
     Ok(())
 }
 

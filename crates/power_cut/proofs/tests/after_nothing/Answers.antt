@@ -1,4 +1,4 @@
-use Rattle.std.proofs.Common.{◌≡◌, ◌∙◌, ap, sym, rules}
+use Rattle.std.proofs.Common.{◌∙◌, ap, sym, rules}
 use Rattle.crash_images.specs.Cut.{CutDevice}
 use Rattle.nor_device.specs.Ram.{Ram}
 use Rattle.power_cut.proofs.OpensLemmas.{aimed_opens}
