@@ -1,6 +1,7 @@
 -- Base first. Crates above cite these lemmas.
 pub mod BehindLemmas
 pub mod EndsLemmas
+pub mod ChosenLemmas
 pub mod WholeLemmas
 pub mod LogLemmas
 pub mod LegLemmas

@@ -37,8 +37,9 @@ use Rattle.power_cut.specs.declared.outcome.Trial.{Trial}
 use Rattle.power_cut.specs.Device.{HasEnd, IsReady, IsWholeEnd, running_in}
 use Rattle.power_cut.specs.Update.{BootsEither, Opens, sealed_end, session_end, slot_size}
 use Rattle.power_cut.specs.Kept.{IsStarted, KeepsConfirm, KeepsSession, MayConfirm}
-use Rattle.power_cut.specs.Whole.{AreDone, BehindBoot, BehindSession, BootsNew, EndsWith, HasBooted, IsBootLeg, IsClosed, IsOutcome, boot_steps, confirm_of, is_done, wants_boot, wants_confirm}
+use Rattle.power_cut.specs.Whole.{AreDone, BehindBoot, BehindSession, BootsNew, EndsAsChosen, EndsWith, HasBooted, IsBootLeg, IsClosed, IsOutcome, boot_steps, confirm_of, is_done, wants_boot, wants_confirm}
 use Rattle.power_cut.specs.Behind.{IsAnnounced, IsBehind}
+use Rattle.power_cut.proofs.ChosenLemmas.{boot_chosen, confirm_chosen, session_chosen}
 use Rattle.power_cut.proofs.BehindLemmas.{announced_active, announced_boots, announced_writes, behind_boots, behind_some, beside_behind, beside_here, booted_first, booted_waits, confirmed_new, confirming, left_behind, session_announced, two, waiting}
 
 -- what follows of an answer
@@ -253,7 +254,7 @@ module _ (shown : ShowsNone) (layout : Places) (aim : Aim) (image : List ℕ) (o
     pub outcome_session : (writes : Writes) (confirms : Confirms) (t : Trial) (legs : List Leg)
         → writes ran → legs ≡ ran.leg ∷ [] → (wants_boot upto && is_done ran.leg.end) ≡ false
         → IsClosed layout legs ran.journal None ran.dev t
-        → IsOutcome writes confirms layout first aim image upto t
+        → IsOutcome writes confirms layout old aim image upto t
     outcome_session writes confirms t legs written legs_are stops closed = record {
       trial = record {
         session = ran;
@@ -263,6 +264,8 @@ module _ (shown : ShowsNone) (layout : Places) (aim : Aim) (image : List ℕ) (o
             (sym stops)
             (subst (λ (l : List Leg). EndsWith l None ran.dev t) legs_are closed.ends);
       };
+      end = subst (EndsAsChosen old) (sym (closed.ends.legs_are ∙ legs_are))
+          (session_chosen old ran (session_end (slot_size layout aim.slot) image) keeps.ran_is);
       boots = subst (BootsEither layout first aim image) (sym closed.ends.flash_is)
           keeps.holds.boots;
       after = closed.after;
@@ -315,7 +318,7 @@ module _ (shown : ShowsNone) (layout : Places) (aim : Aim) (image : List ℕ) (o
           pub outcome_boot : (writes : Writes) (confirms : Confirms) (t : Trial) (legs : List Leg)
               → writes ran → legs ≡ ran.leg ∷ leg ∷ [] → IsBootLeg layout mid dev leg
               → confirm_of upto booted ≡ None → IsClosed layout legs ran.journal None dev t
-              → IsOutcome writes confirms layout first aim image upto t
+              → IsOutcome writes confirms layout old aim image upto t
           outcome_boot writes confirms t legs written legs_are boot_is none closed = record {
             trial = record {
               session = ran;
@@ -332,6 +335,10 @@ module _ (shown : ShowsNone) (layout : Places) (aim : Aim) (image : List ℕ) (o
                         (subst (λ (l : List Leg). EndsWith l None dev t) legs_are closed.ends);
                   });
             };
+            end = subst (EndsAsChosen old) (sym (closed.ends.legs_are ∙ legs_are))
+                (boot_chosen old ran (session_end (slot_size layout aim.slot) image) keeps.ran_is
+                (done_is ran.leg.end done_here) dev leg
+                (subst (λ (d : CutDevice Ram). IsBootLeg layout d dev leg) mid_is boot_is).ran);
             boots = subst (BootsEither layout first aim image) (sym closed.ends.flash_is)
                 (behind_boots layout first aim image opens dev.inner.bytes behind_boot);
             after = closed.after;
@@ -390,7 +397,7 @@ module _ (shown : ShowsNone) (layout : Places) (aim : Aim) (image : List ℕ) (o
                   → IsBootLeg layout mid dev leg
                   → (at : Bor Booted) (of : Bor Rewrite) → confirms dev at of last → at.now ≡ it
                   → of.now ≡ write → IsClosed layout legs ran.journal (Some last.journal) last.dev t
-                  → IsOutcome writes confirms layout first aim image upto t
+                  → IsOutcome writes confirms layout old aim image upto t
               outcome_confirm writes confirms t legs written legs_are boot_is at of confirmed at_is
                   of_is closed = record {
                     trial = record {
@@ -417,6 +424,11 @@ module _ (shown : ShowsNone) (layout : Places) (aim : Aim) (image : List ℕ) (o
                                 });
                           });
                     };
+                    end = subst (EndsAsChosen old) (sym (closed.ends.legs_are ∙ legs_are))
+                        (confirm_chosen old ran (session_end (slot_size layout aim.slot) image)
+                        keeps.ran_is (done_is ran.leg.end done_here) dev leg
+                        (subst (λ (d : CutDevice Ram). IsBootLeg layout d dev leg) mid_is boot_is).ran
+                        last kept.ran_is);
                     boots = subst (BootsEither layout first aim image) (sym closed.ends.flash_is)
                         (behind_boots layout first aim image opens last.dev.inner.bytes behind_last);
                     after = closed.after;
