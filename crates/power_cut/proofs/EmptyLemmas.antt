@@ -1,22 +1,20 @@
 -- A session that writes nothing keeps what a trial asks, where the image has no byte.
-use Rattle.std.proofs.Common.{◌≡◌, ◌≢◌, inl, Bool, false, ℕ, ◌+◌, List, [], ◌++◌, length, Some, None, refl, sym, ap, ◌∙◌, subst, arith}
+use Rattle.std.proofs.Common.{◌≡◌, inl, Bool, false, ℕ, List, [], length, Some, refl, sym, ap, ◌∙◌, subst, arith}
 use Rattle.nor_device.specs.declared.step.Step.{Step}
 use Rattle.nor_device.specs.Ram.{Ram}
-use Rattle.crash_images.specs.declared.cut.CutSetting.{CutSetting}
 use Rattle.crash_images.specs.Cut.{CutDevice}
 use Rattle.partition_table.specs.Layout.{Places}
-use Rattle.boot_select.specs.Boots.{entries_in, images_in}
 use Rattle.rollback.specs.Boots.{boots_in}
 use Rattle.image_verify.specs.Held.{held}
 use Rattle.boot_run.specs.declared.aims.Aim.{Aim}
-use Rattle.update_steps.specs.Beside.{IsApart, StandsBeside}
+use Rattle.update_steps.specs.Beside.{StandsBeside}
 use Rattle.update_steps.specs.Driver.{driver_steps}
 use Rattle.update_steps.proofs.BesideLemmas.{beside_first}
 use Rattle.update_steps.proofs.StepLemmas.{empty_steps}
 use Rattle.power_cut.specs.declared.legs.Leg.{Leg}
 use Rattle.power_cut.specs.declared.legs.LegEnd.TheVariants.{Empty}
 use Rattle.power_cut.specs.declared.legs.Ran.{Ran}
-use Rattle.power_cut.specs.Device.{HasEnd, IsRan, IsReady, is_cut, is_off, running_in, setting_of}
+use Rattle.power_cut.specs.Device.{HasEnd, IsReady, is_cut, is_off, running_in, setting_of}
 use Rattle.power_cut.specs.Kept.{KeepsSession}
 use Rattle.power_cut.specs.Update.{HoldsUpdate, Opens, image_of}
 

@@ -1,6 +1,6 @@
 -- Where nothing broke off, the flash of an update is the one that its lists of steps leave, one after
 -- the other.
-use Rattle.std.proofs.Common.{◌≡◌, ◌⊎◌, inl, inr, Bool, true, false, ℕ, zero, suc, ◌+◌, ◌*◌, ◌-◌, ◌%◌, ◌<◌, ◌≤◌, List, [], ◌∷◌, ◌++◌, length, Option, Some, None, Result, Ok, Err, refl, sym, ap, ◌∙◌, subst, arith}
+use Rattle.std.proofs.Common.{◌≡◌, Bool, true, false, ℕ, ◌+◌, ◌*◌, ◌-◌, ◌%◌, ◌<◌, ◌≤◌, List, [], ◌∷◌, ◌++◌, length, Option, Some, None, Result, Ok, Err, refl, sym, ap, ◌∙◌, subst, arith}
 use Rattle.std.specs.Prelude.{◌&&◌}
 use Rattle.std.specs.Borrow.{Bor}
 use Rattle.nor_device.specs.declared.step.Step.{Step}
@@ -17,7 +17,7 @@ use Rattle.partition_table.specs.declared.app.App.TheVariants.{Ota}
 use Rattle.partition_table.specs.Layout.{Places}
 use Rattle.boot_select.specs.Boots.{entries_in}
 use Rattle.rollback.specs.declared.rewrite.Rewrite.{Rewrite}
-use Rattle.rollback.specs.Rewrite.{restated, with_state}
+use Rattle.rollback.specs.Rewrite.{restated}
 use Rattle.image_layout.specs.Whole.{Whole}
 use Rattle.otadata.specs.declared.entry.Entry.{Entry}
 use Rattle.boot_run.specs.declared.aims.Aim.{Aim}
@@ -30,19 +30,18 @@ use Rattle.update_steps.specs.Driver.{data_steps, driver_steps, next_rewrite}
 use Rattle.update_steps.proofs.DataLemmas.{aligned_row, data_within}
 use Rattle.update_steps.proofs.SessionLemmas.{ShowsNone, driver_is, image_whole}
 use Rattle.power_cut.specs.declared.legs.Leg.{Leg}
-use Rattle.power_cut.specs.declared.legs.LegEnd.{LegEnd}
-use Rattle.power_cut.specs.declared.legs.LegEnd.TheVariants.{Done, Device, Cut}
+use Rattle.power_cut.specs.declared.legs.LegEnd.TheVariants.{Done}
 use Rattle.power_cut.specs.declared.legs.Ran.{Ran}
 use Rattle.power_cut.specs.declared.legs.Upto.{Upto}
 use Rattle.power_cut.specs.declared.legs.Upto.TheVariants.{Session, Boot, Confirm}
 use Rattle.power_cut.specs.declared.outcome.Trial.{Trial}
 use Rattle.power_cut.specs.Behind.{IsAnnounced}
-use Rattle.power_cut.specs.Device.{HasEnd, IsUnbroken, IsWholeEnd, MayEnd, MayRefuse, MayTear, MustRefuse, setting_of}
-use Rattle.power_cut.specs.Installed.{AllLieIn, LiesIn, booted_flash, confirmed_flash, installed_flash, written_flash}
+use Rattle.power_cut.specs.Device.{HasEnd, IsWholeEnd, MayEnd, MayRefuse, MayTear, MustRefuse, setting_of}
+use Rattle.power_cut.specs.Installed.{AllLieIn, booted_flash, confirmed_flash, installed_flash, written_flash}
 use Rattle.power_cut.specs.Kept.{IsConfirmLeg, IsSessionLeg, MayConfirm}
 use Rattle.power_cut.specs.Leg.{share_of}
 use Rattle.power_cut.specs.Update.{Opens, session_end, slot_size}
-use Rattle.power_cut.specs.Whole.{AreDone, BehindBoot, BehindSession, EndsBooted, EndsConfirmed, EndsWith, IsBootLeg, IsTrial, boot_steps, end_by, is_done, wants_boot, wants_confirm}
+use Rattle.power_cut.specs.Whole.{AreDone, BehindBoot, BehindSession, EndsBooted, EndsWith, IsBootLeg, IsTrial, boot_steps, end_by, is_done, wants_boot}
 use Rattle.power_cut.proofs.BehindLemmas.{announced_active, announced_writes, booted_waits, session_announced, size_is, two, waiting}
 use Rattle.power_cut.proofs.MergeLemmas.{leg_installs}
 use Rattle.power_cut.proofs.WholeLemmas.{sealed_whole}

@@ -1,5 +1,5 @@
 -- A leg, by the bus on which both cores worked; and what a trial needs of it.
-use Rattle.std.proofs.Common.{◌≡◌, Bool, ℕ, zero, suc, ◌-◌, ◌<◌, List, [], ◌∷◌, ◌++◌, Option, Some, None, Result, Ok, refl, sym, ap, ◌∙◌, subst}
+use Rattle.std.proofs.Common.{◌≡◌, Bool, ℕ, zero, suc, ◌-◌, List, [], ◌∷◌, ◌++◌, Option, Some, None, Result, refl, sym, ap, ◌∙◌, subst}
 use Rattle.std.proofs.lemmas.List.{append-nil}
 use Rattle.nor_device.specs.declared.step.Step.{Step}
 use Rattle.nor_device.specs.declared.nor.NorFault.{NorFault}
@@ -30,7 +30,7 @@ use Rattle.update_steps.specs.Beside.{IsApart}
 use Rattle.power_cut.specs.declared.legs.Ran.{Ran}
 use Rattle.power_cut.specs.Device.{MayEnd, MayRefuse, MayTear, MustRefuse, bytes_of, faults_of, is_off, setting_of}
 use Rattle.power_cut.specs.Kept.{IsConfirmLeg, IsSessionLeg, KeepsConfirm, KeepsSession}
-use Rattle.power_cut.specs.Leg.{AnyGrants, IsAnyGood, IsLeg, IsLegBase, IsSameFlash, LeavesBehind, LegStands, any_after, any_duty, any_part, bus_behind, share_of, state_behind}
+use Rattle.power_cut.specs.Leg.{AnyGrants, IsLeg, IsSameFlash, LeavesBehind, LegStands, any_after, any_duty, any_part, bus_behind, share_of, state_behind}
 use Rattle.power_cut.specs.Update.{HoldsRewrite, HoldsUpdate}
 
 -- what a loss of power may leave, in the words of the device and of the log

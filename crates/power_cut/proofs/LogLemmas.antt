@@ -1,9 +1,7 @@
 -- How a device comes back from a log: where a chosen step was begun, it is the last one.
-use Rattle.std.proofs.Common.{◌==◌, ◌≡◌, ◌≢◌, ◌⊎◌, inl, inr, Bool, true, false, ℕ, zero, suc, ◌+◌, ◌-◌, ◌<◌, ◌≤◌, cond, List, [], ◌∷◌, ◌++◌, Option, Some, None, refl, sym, ap, ◌∙◌, subst, arith}
+use Rattle.std.proofs.Common.{◌==◌, ◌≡◌, ◌⊎◌, inl, inr, true, false, ℕ, cond, List, [], ◌∷◌, ◌++◌, Option, Some, None, refl, sym, ap, ◌∙◌, subst}
 use Rattle.std.proofs.lemmas.Bool.{cases_Bool}
-use Rattle.std.proofs.lemmas.Bool.Decides.{nat_tests}
 use Rattle.nor_device.specs.declared.step.Step.{Step}
-use Rattle.nor_device.specs.declared.nor.StepEnd.{StepEnd}
 use Rattle.nor_device.specs.declared.nor.StepEnd.TheVariants as ends
 use Rattle.nor_device.specs.declared.nor.NorFault.{NorFault}
 use Rattle.nor_device.specs.declared.nor.NorFault.TheVariants.{Failed, Off}
@@ -16,12 +14,11 @@ use Rattle.bus_hub.specs.declared.did.Base.{Base}
 use Rattle.bus_hub.specs.declared.did.Did.{Did}
 use Rattle.bus_hub.specs.declared.did.Did.TheVariants.{Opened, Closed, Broken, Fetched, Noted, Denied, Mapping, Unmapping, Missed, Masked}
 use Rattle.bus_hub.specs.declared.did.Running.{Running}
-use Rattle.bus_hub.specs.Hub.{Hub, Stands, begun, state_of}
-use Rattle.bus_hub.specs.Log.{Item, Rule, Ruled, Runs, State, change, item, made_whole, of_core, reached}
-use Rattle.bus_hub.proofs.Logs.{kept, reached-append, ruled-back}
-use Rattle.power_cut.specs.Device.{IsUnbroken, MayEnd, MayRefuse, MayTear, MustRefuse, bytes_of, faults_of, is_off, setting_of}
+use Rattle.bus_hub.specs.Hub.{Hub, Stands, begun}
+use Rattle.bus_hub.specs.Log.{Item, Rule, Ruled, Runs, State, change, made_whole, of_core, reached}
+use Rattle.bus_hub.proofs.Logs.{kept}
+use Rattle.power_cut.specs.Device.{MayEnd, MayRefuse, MayTear, MustRefuse, bytes_of, faults_of, is_off, setting_of}
 use Rattle.power_cut.specs.Refused.{IsRefusal}
-use Rattle.power_cut.specs.Leg.{share_of}
 use Rattle.power_cut.proofs.EndsLemmas.{by_choice, refused_by_choice}
 
 abbrev Choice : Type 0

@@ -1,6 +1,6 @@
 -- Where nothing broke off, a leg leaves the first flash after the driver's steps and then those of the
 -- other core, whatever the order of turns.
-use Rattle.std.proofs.Common.{◌==◌, ◌≡◌, ◌≢◌, ◌⊎◌, inl, inr, Bool, true, false, ℕ, zero, suc, ◌+◌, ◌-◌, ◌<◌, ◌≤◌, cond, List, [], ◌∷◌, ◌++◌, length, slice_index, Option, Some, None, Result, Ok, refl, sym, ap, ◌∙◌, subst, arith}
+use Rattle.std.proofs.Common.{◌==◌, ◌≡◌, ◌≢◌, ◌⊎◌, inl, inr, Bool, true, false, ℕ, zero, suc, ◌-◌, ◌<◌, cond, List, [], ◌∷◌, length, slice_index, Option, Some, None, Result, refl, sym, ap, ◌∙◌, subst, arith}
 use Rattle.std.proofs.lemmas.Bool.{cases_Bool, cases_lt}
 use Rattle.std.proofs.lemmas.List.{ext_get_or}
 use Rattle.nor_device.specs.declared.step.Step.{Step}
@@ -16,13 +16,13 @@ use Rattle.bus_hub.specs.declared.did.Did.TheVariants.{Opened, Closed, Broken, F
 use Rattle.bus_hub.specs.declared.did.Running.{Running}
 use Rattle.bus_hub.specs.declared.duty.AnyDuty.{AnyDuty}
 use Rattle.bus_hub.specs.Hub.{begun}
-use Rattle.bus_hub.specs.Log.{Item, Rule, Ruled, Runs, State, change, of_core, reached, run_of}
+use Rattle.bus_hub.specs.Log.{Item, Rule, Ruled, Runs, State, change, of_core, reached}
 use Rattle.bus_hub.specs.Room.{Kept}
 use Rattle.bus_hub.specs.Shares.{AreUnbroken, Begun, all_of, begun_of, made, made_from, own_begun}
 use Rattle.bus_hub.proofs.FlashLog.{flash_of_log}
-use Rattle.power_cut.specs.Device.{IsUnbroken, MayEnd, MayRefuse, MayTear, MustRefuse, setting_of}
+use Rattle.power_cut.specs.Device.{IsUnbroken, MayEnd, MayRefuse, MayTear, MustRefuse}
 use Rattle.power_cut.specs.Installed.{AllLieIn, LiesIn}
-use Rattle.power_cut.specs.Leg.{AnyGrants, IsLeg, any_after, any_duty, any_part, share_of}
+use Rattle.power_cut.specs.Leg.{AnyGrants, IsLeg, any_after, any_part, share_of}
 use Rattle.power_cut.proofs.LogLemmas.{refused_here, stopped_log}
 
 -- ---- steps of two lists, each in its order
