@@ -1,5 +1,5 @@
--- What stands behind the data of an update stays in the rewrites of a boot and of a confirmation, and
--- boots the application that ran or the new one, but for a chance match seen from the opening.
+-- What stands behind the data of an update stays in the rewrites of a boot and of a confirmation,
+-- and boots the application that ran or the new one, but for a chance match seen from the opening.
 use Rattle.std.proofs.Common.{◌≡◌, ◌≢◌, ◌⊎◌, inl, inr, Bool, ℕ, zero, suc, ◌+◌, ◌<◌, ◌≤◌, List, [], ◌∷◌, ◌++◌, length, Option, Some, None, refl, sym, ap, ◌∙◌, subst, arith}
 use Rattle.std.proofs.lemmas.Bool.Decides.{nat_tests}
 use Rattle.std.proofs.lemmas.Option.{slice_get_within}
@@ -462,7 +462,8 @@ module _ (layout : Places) (first : List ℕ) (aim : Aim) (image : List ℕ)
       boots_after layout (images_in held layout now) (entries_in layout now)
       (entries_in layout then 0) (entries_in layout then 1)
       (after 0 (omega arith) made) (after 1 (omega arith) made)
-      ∙ ap (λ (h : Images). first_held h (candidates layout (names layout (entries_in layout then))))
+      ∙ ap (λ (h : Images). first_held h (candidates layout (names layout
+          (entries_in layout then))))
       (sym images)
     where
       then : List ℕ

@@ -28,7 +28,8 @@ module _ (layout : Places) (aim : Aim) (dev : CutDevice Ram) (ready : IsReady de
   flash = dev.inner.bytes
 
   boots : boots_in held layout flash ≡ Some (aim.running, image_of layout flash aim.running)
-  boots = opens.begins.settled.booted ∙ ap (λ (image : List ℕ). Some (aim.running, image)) opens.old_is
+  boots = opens.begins.settled.booted ∙ ap (λ (image : List ℕ). Some
+      (aim.running, image)) opens.old_is
 
   holds : HoldsUpdate layout flash aim [] none flash
   holds = record {

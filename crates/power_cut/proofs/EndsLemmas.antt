@@ -318,10 +318,12 @@ module _ (old new : CutDevice Ram) (whole wanted : LegEnd) (asked : Result (Unit
     (allowed : IfErr asked (MayRefuse (setting_of new) new.steps))
     (stopped : OnOk asked (¬ MustRefuse (setting_of new) new.steps))
     (told : IsUnbroken old new.steps ⊎ IsBad old.cut old.fail new.steps)
-    (whole_is : IsWholeEnd wanted) (same : ¬ IsBad old.cut old.fail new.steps → whole ≡ wanted) where
+    (whole_is : IsWholeEnd wanted) (same : ¬ IsBad old.cut old.fail new.steps → whole
+        ≡ wanted) where
   asked_end : HasEnd old new.steps wanted (end_asked new.steps whole asked)
   asked_end = at asked
-      (subst (λ (set : CutSetting (Unit {0})). IfErr asked (MayRefuse set new.steps)) setting allowed)
+      (subst (λ (set : CutSetting (Unit {0})). IfErr asked
+          (MayRefuse set new.steps)) setting allowed)
       (subst (λ (set : CutSetting (Unit {0})). OnOk asked (¬ MustRefuse set new.steps)) setting
       stopped)
     where
@@ -350,7 +352,8 @@ module _ (old new : CutDevice Ram) (whole wanted : LegEnd) (asked : Result (Unit
             last = refl;
           }
 
-  asked_power : (IsErrOf asked Off → IsTrue (is_off new)) × (IsTrue (is_off new) → IsErrOf asked Off)
+  asked_power : (IsErrOf asked Off → IsTrue (is_off new)) × (IsTrue (is_off new)
+      → IsErrOf asked Off)
       → is_off new ≡ is_cut (end_asked new.steps whole asked)
   asked_power off = at asked (is_off new) off
       (subst (λ (set : CutSetting (Unit {0})). OnOk asked (¬ MustRefuse set new.steps)) setting

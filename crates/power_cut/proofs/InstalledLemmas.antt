@@ -1,5 +1,5 @@
--- Where nothing broke off, the flash of an update is the one that its lists of steps leave, one after
--- the other.
+-- Where nothing broke off, the flash of an update is the one that its lists of steps leave, one
+-- after the other.
 use Rattle.std.proofs.Common.{◌≡◌, Bool, true, false, ℕ, ◌+◌, ◌*◌, ◌-◌, ◌%◌, ◌<◌, ◌≤◌, List, [], ◌∷◌, ◌++◌, length, Option, Some, None, Result, Ok, Err, refl, sym, ap, ◌∙◌, subst, arith}
 use Rattle.std.specs.Prelude.{◌&&◌}
 use Rattle.std.specs.Borrow.{Bor}
@@ -160,7 +160,8 @@ module _ (shown : ShowsNone) (layout : Places) (aim : Aim) (image : List ℕ) (o
 
   -- a confirmation that is made whole
   module _ (drives works : Result (Unit {0}) NorFault → List Did → Type 0) (pages : Map → Type 0)
-      (dev : CutDevice Ram) (write : Rewrite) (write_is : write ≡ restated 2 aim.next.sector aim.next.entry)
+      (dev : CutDevice Ram) (write : Rewrite) (write_is : write
+          ≡ restated 2 aim.next.sector aim.next.entry)
       (ran : Ran) (is : IsConfirmLeg drives works driver pages layout others write dev ran)
       (end : ran.leg.end ≡ Done)
       (drove : (share : List Did) → drives (Ok tt) share
@@ -283,7 +284,8 @@ module _ (shown : ShowsNone) (layout : Places) (aim : Aim) (image : List ℕ) (o
                 ends.behind.flash_is ∙ booted ends.new ends.leg legs.0 legs.1.0 ends.booted
         behind Confirm later = confirm_case (is_done ran.leg.end) refl later
           where
-            last_case : (ends : EndsBooted confirms layout first Confirm ran.leg ran.dev t) (b : Bool)
+            last_case : (ends : EndsBooted confirms layout first Confirm ran.leg ran.dev t)
+                (b : Bool)
                 → is_done ends.leg.end ≡ b
                 → BehindBoot confirms layout first b (ran.leg ∷ ends.leg ∷ []) ends.new t
                 → t.flash.items ≡ installed_flash layout aim image work Confirm first

@@ -6,6 +6,7 @@ pub mod WholeLemmas
 pub mod LogLemmas
 pub mod LegLemmas
 pub mod MergeLemmas
+pub mod CountLemmas
 pub mod InstalledLemmas
 pub mod EmptyLemmas
 pub mod OpensLemmas

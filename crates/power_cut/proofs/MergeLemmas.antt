@@ -1,5 +1,5 @@
--- Where nothing broke off, a leg leaves the first flash after the driver's steps and then those of the
--- other core, whatever the order of turns.
+-- Where nothing broke off, a leg leaves the first flash after the driver's steps and then those of
+-- the other core, whatever the order of turns.
 use Rattle.std.proofs.Common.{◌==◌, ◌≡◌, ◌≢◌, ◌⊎◌, inl, inr, Bool, true, false, ℕ, zero, suc, ◌-◌, ◌<◌, cond, List, [], ◌∷◌, length, slice_index, Option, Some, None, Result, refl, sym, ap, ◌∙◌, subst, arith}
 use Rattle.std.proofs.lemmas.Bool.{cases_Bool, cases_lt}
 use Rattle.std.proofs.lemmas.List.{ext_get_or}
@@ -27,7 +27,7 @@ use Rattle.power_cut.proofs.LogLemmas.{refused_here, stopped_log}
 
 -- ---- steps of two lists, each in its order
 
-abbrev Merges : List Step → List Step → List Step → Type 0
+abbrev pub Merges : List Step → List Step → List Step → Type 0
 Merges xs ys [] = (xs ≡ []) × (ys ≡ [])
 Merges xs ys (z ∷ zs) =
     ((rest : List Step) × (xs ≡ z ∷ rest) × Merges rest ys zs)
@@ -147,7 +147,7 @@ module _ {K P : Type 0} (part : K → ℕ → P) (grants : P → Step → Type 0
   item_right set s (Masked at len) rule left right all merged = merged
 
   -- the steps that a log makes are those of both shares, merged
-  merged_log : (set : CutSetting (Unit {0})) (s : State K) (log : List Item) → IsRuled set s log
+  pub merged_log : (set : CutSetting (Unit {0})) (s : State K) (log : List Item) → IsRuled set s log
       → Merged s.running (of_core 0 log) (of_core 1 log) (all_of log)
   merged_log set s [] ruled = (refl, refl)
   merged_log set s (x ∷ log) ruled =
@@ -188,7 +188,8 @@ module _ {K P : Type 0} (part : K → ℕ → P) (grants : P → Step → Type 0
   unbroken_by set s c (Missed at len) log rule ruled sound later = later
   unbroken_by set s c (Masked at len) log rule ruled sound later = later
 
-  unbroken_log : (set : CutSetting (Unit {0})) (s : State K) (log : List Item) → IsRuled set s log
+  pub unbroken_log : (set : CutSetting (Unit {0})) (s : State K) (log : List Item)
+      → IsRuled set s log
       → ¬ IsBad set.cut set.fail (reached after s log).steps → AreUnbroken (all_of log)
   unbroken_log set s [] ruled sound = tt
   unbroken_log set s (x ∷ log) ruled sound =
@@ -264,67 +265,73 @@ merged_after others (z ∷ zs) own work flash mine theirs (inr (rest, is, merged
 
 -- ---- a leg in which nothing broke off
 
+swapped : (xs ys zs : List Step) → Merges xs ys zs → Merges ys xs zs
+swapped xs ys [] m = (m.1, m.0)
+swapped xs ys (z ∷ zs) (inl (rest, is, m)) = inr (rest, is, swapped rest ys zs m)
+swapped xs ys (z ∷ zs) (inr (rest, is, m)) = inl (rest, is, swapped xs rest zs m)
+
+not_here : (chosen : Option ℕ) (n : ℕ) → IsAhead chosen n → chosen ≡ Some n → ⊥
+not_here None n ahead is = cc is
+not_here (Some k) n ahead is = let same : k ≡ n = cc is in absurd (omega arith)
+
 module _ (drives works : Result (Unit {0}) NorFault → List Did → Type 0) (driver : ℕ)
     (pages : Map → Type 0) (holds : List ℕ → Type 0) (old new : CutDevice Ram) (journal : Kept)
-    (leg : IsLeg drives works driver pages holds old new journal) (below : driver < 2)
-    (sound : IsUnbroken old new.steps) (others : ℕ → Bool) (list work : List Step)
-    (drove : made (share_of driver leg.left leg.right) ≡ list)
-    (worked : made (share_of (1 - driver) leg.left leg.right) ≡ work)
-    (mine : AllLieIn others false list) (theirs : AllLieIn others true work) where
+    (leg : IsLeg drives works driver pages holds old new journal) where
   abbrev log : List Item
   log = leg.stands.stood.log
-
-  not_here : (chosen : Option ℕ) (n : ℕ) → IsAhead chosen n → chosen ≡ Some n → ⊥
-  not_here None n ahead is = cc is
-  not_here (Some k) n ahead is = let same : k ≡ n = cc is in absurd (omega arith)
 
   steps_end : (reached any_after (begun leg.base) log).steps ≡ new.steps
   steps_end = ap (λ (t : State AnyDuty). t.steps) leg.stands.stood.leads ∙ leg.same.steps
 
-  not_bad : ¬ IsBad leg.base.setting.cut leg.base.setting.fail
+  -- the last step is no chosen one
+  pub not_bad : IsUnbroken old new.steps
+      → ¬ IsBad leg.base.setting.cut leg.base.setting.fail
       (reached any_after (begun leg.base) log).steps
-  not_bad bad = elim (subst (λ n. IsBad old.cut old.fail n) steps_end
+  not_bad sound bad = elim (subst (λ n. IsBad old.cut old.fail n) steps_end
       (subst (λ (set : CutSetting (Unit {0})). IsBad set.cut set.fail
       (reached any_after (begun leg.base) log).steps) leg.opening.setting_is bad)) [
         | inl is ↦ not_here old.cut new.steps sound.cut_ahead is
         | inr is ↦ not_here old.fail new.steps sound.fail_ahead is
       ]
 
-  unbroken : AreUnbroken (all_of log)
-  unbroken = unbroken_log any_part AnyGrants any_after leg.base.setting (begun leg.base) log
-      leg.stands.stood.ruled not_bad
+  unbroken : IsUnbroken old new.steps → AreUnbroken (all_of log)
+  unbroken sound = unbroken_log any_part AnyGrants any_after leg.base.setting (begun leg.base) log
+      leg.stands.stood.ruled (not_bad sound)
 
-  merged : Merges (made leg.left) (made leg.right) (made (all_of log))
-  merged = subst (λ (l : List Did). Merges (made l) (made leg.right) (made (all_of log)))
+  -- the steps that its log makes are those of both shares, merged
+  pub merged_shares : Merges (made leg.left) (made leg.right) (made (all_of log))
+  merged_shares = subst (λ (l : List Did). Merges (made l) (made leg.right) (made (all_of log)))
       leg.stands.stood.left_is
       (subst (λ (r : List Did). Merges (made (of_core 0 log)) (made r) (made (all_of log)))
       leg.stands.stood.right_is
       (merged_log any_part AnyGrants any_after leg.base.setting (begun leg.base) log
       leg.stands.stood.ruled))
 
-  swapped : (xs ys zs : List Step) → Merges xs ys zs → Merges ys xs zs
-  swapped xs ys [] m = (m.1, m.0)
-  swapped xs ys (z ∷ zs) (inl (rest, is, m)) = inr (rest, is, swapped rest ys zs m)
-  swapped xs ys (z ∷ zs) (inr (rest, is, m)) = inl (rest, is, swapped xs rest zs m)
+  module _ (below : driver < 2) (sound : IsUnbroken old new.steps) (others : ℕ → Bool)
+      (list work : List Step)
+      (drove : made (share_of driver leg.left leg.right) ≡ list)
+      (worked : made (share_of (1 - driver) leg.left leg.right) ≡ work)
+      (mine : AllLieIn others false list) (theirs : AllLieIn others true work) where
+    merged_here : Merges list work (made (all_of log))
+    merged_here = subst (λ (l : List Step). Merges l work (made (all_of log))) drove
+        (subst (λ (w : List Step). Merges (made (share_of driver leg.left leg.right)) w
+        (made (all_of log))) worked (at driver below))
+      where
+        at : (d : ℕ) → d < 2 → Merges (made (share_of d leg.left leg.right))
+            (made (share_of (1 - d) leg.left leg.right)) (made (all_of log))
+        at zero small = merged_shares
+        at (suc zero) small =
+            swapped (made leg.left) (made leg.right) (made (all_of log)) merged_shares
+        at (suc (suc n)) small = absurd (omega arith)
 
-  merged_here : Merges list work (made (all_of log))
-  merged_here = subst (λ (l : List Step). Merges l work (made (all_of log))) drove
-      (subst (λ (w : List Step). Merges (made (share_of driver leg.left leg.right)) w
-      (made (all_of log))) worked (at driver below))
-    where
-      at : (d : ℕ) → d < 2 → Merges (made (share_of d leg.left leg.right))
-          (made (share_of (1 - d) leg.left leg.right)) (made (all_of log))
-      at zero small = merged
-      at (suc zero) small = swapped (made leg.left) (made leg.right) (made (all_of log)) merged
-      at (suc (suc n)) small = absurd (omega arith)
-
-  -- the flash is the first one after the driver's steps and then those of the other core
-  pub leg_installs : new.inner.bytes ≡ after_steps (after_steps old.inner.bytes list) work
-  leg_installs =
-      let told : leg.stands.flash ≡ leg.back.inner.bytes = let e = leg.stands.told in cc in
-      let first : old.inner.bytes ≡ leg.base.flash = let e = leg.opening.flash_is in cc in
-      sym leg.same.bytes ∙ sym told ∙ sym (ap (λ (t : State AnyDuty). t.flash) leg.stands.stood.leads)
-      ∙ (flash_of_log MayEnd MayTear MayRefuse MustRefuse any_part AnyGrants any_after
-      leg.base.setting (begun leg.base) log leg.stands.stood.ruled unbroken).0
-      ∙ merged_after others (made (all_of log)) list work leg.base.flash mine theirs merged_here
-      ∙ ap (λ (f : List ℕ). after_steps (after_steps f list) work) (sym first)
+    -- the flash is the first one after the driver's steps and then those of the other core
+    pub leg_installs : new.inner.bytes ≡ after_steps (after_steps old.inner.bytes list) work
+    leg_installs =
+        let told : leg.stands.flash ≡ leg.back.inner.bytes = let e = leg.stands.told in cc in
+        let first : old.inner.bytes ≡ leg.base.flash = let e = leg.opening.flash_is in cc in
+        sym leg.same.bytes ∙ sym told
+        ∙ sym (ap (λ (t : State AnyDuty). t.flash) leg.stands.stood.leads)
+        ∙ (flash_of_log MayEnd MayTear MayRefuse MustRefuse any_part AnyGrants any_after
+        leg.base.setting (begun leg.base) log leg.stands.stood.ruled (unbroken sound)).0
+        ∙ merged_after others (made (all_of log)) list work leg.base.flash mine theirs merged_here
+        ∙ ap (λ (f : List ℕ). after_steps (after_steps f list) work) (sym first)

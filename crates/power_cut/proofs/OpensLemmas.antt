@@ -1,5 +1,5 @@
--- When an update begins, from the image that the running application has; and a device that was looked
--- at is ready.
+-- When an update begins, from the image that the running application has; and a device that was
+-- looked at is ready.
 use Rattle.std.proofs.Common.{◌≡◌, ◌<◌, Bool, true, false, ℕ, List, [], Option, Some, None, Result, Ok, refl, sym, ap, ◌∙◌, subst}
 use Rattle.std.specs.Prelude.{All, IsErrOf, IsTrue, length}
 use Rattle.nor_device.specs.declared.nor.NorFault.{NorFault}

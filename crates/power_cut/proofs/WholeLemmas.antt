@@ -147,14 +147,16 @@ module _ (shown : ShowsNone) (layout : Places) (aim : Aim) (image : List ℕ) (o
         sound : HasEnd old ran.dev.steps (session_end (slot_size layout aim.slot) image)
             ran.leg.end
             → session_end (slot_size layout aim.slot) image ≡ Done
-        sound end = (subst (HasEnd old ran.dev.steps (session_end (slot_size layout aim.slot) image))
+        sound end = (subst (HasEnd old ran.dev.steps (session_end
+            (slot_size layout aim.slot) image))
             (done_is ran.leg.end done) end).1
 
     module _ (done : is_done ran.leg.end ≡ true) where
       abbrev mid : List ℕ
       mid = ran.dev.inner.bytes
 
-      steps_are : boot_steps layout mid ≡ rewrite layout.otadata (waiting layout first aim image opens)
+      steps_are : boot_steps layout mid ≡ rewrite layout.otadata
+          (waiting layout first aim image opens)
       steps_are = ap (rewrites layout.otadata) (announced_writes layout first aim image opens mid
           (announced done))
 
@@ -379,7 +381,8 @@ module _ (shown : ShowsNone) (layout : Places) (aim : Aim) (image : List ℕ) (o
 
             module _ (last : Ran) (kept : KeepsConfirm layout write dev last) where
               behind_last : IsBehind layout first aim image last.dev.inner.bytes
-              behind_last = confirmed_behind ran keeps done_here dev leg it whole_boot write write_is
+              behind_last = confirmed_behind ran keeps done_here dev leg it whole_boot write
+                  write_is
                   last kept
 
               pub last_some : boots_in held layout last.dev.inner.bytes ≢ None
@@ -404,18 +407,22 @@ module _ (shown : ShowsNone) (layout : Places) (aim : Aim) (image : List ℕ) (o
                       session = ran;
                       written = written;
                       journal = closed.session_is;
-                      behind = subst (λ b. BehindSession confirms layout first b upto ran.leg ran.dev t)
+                      behind = subst
+                          (λ b. BehindSession confirms layout first b upto ran.leg ran.dev t)
                           (sym goes) (record {
                             new = dev;
                             leg = leg;
-                            booted = subst (λ (d : CutDevice Ram). IsBootLeg layout d dev leg) mid_is
+                            booted = subst (λ
+                                (d : CutDevice Ram). IsBootLeg layout d dev leg) mid_is
                                 boot_is;
                             behind = subst (λ b. BehindBoot confirms layout first b
                                 (ran.leg ∷ leg ∷ []) dev t) (sym goes_on) (record {
                                   at = at;
                                   write = of;
-                                  may = subst (λ b. MayConfirm layout first dev b of.now) (sym at_is)
-                                      (subst (MayConfirm layout first dev it) (sym of_is) confirm_may);
+                                  may = subst (λ b. MayConfirm layout first dev b of.now)
+                                      (sym at_is)
+                                      (subst (MayConfirm layout first dev it)
+                                          (sym of_is) confirm_may);
                                   ran = last;
                                   confirmed = confirmed;
                                   ends = subst
@@ -427,14 +434,17 @@ module _ (shown : ShowsNone) (layout : Places) (aim : Aim) (image : List ℕ) (o
                     end = subst (EndsAsChosen old) (sym (closed.ends.legs_are ∙ legs_are))
                         (confirm_chosen old ran (session_end (slot_size layout aim.slot) image)
                         keeps.ran_is (done_is ran.leg.end done_here) dev leg
-                        (subst (λ (d : CutDevice Ram). IsBootLeg layout d dev leg) mid_is boot_is).ran
+                        (subst (λ (d : CutDevice Ram). IsBootLeg layout d dev leg) mid_is
+                            boot_is).ran
                         last kept.ran_is);
                     boots = subst (BootsEither layout first aim image) (sym closed.ends.flash_is)
-                        (behind_boots layout first aim image opens last.dev.inner.bytes behind_last);
+                        (behind_boots layout first aim image opens last.dev.inner.bytes
+                            behind_last);
                     after = closed.after;
                     installed = λ no_boot done.
                         subst (BootsNew layout aim image) (sym closed.ends.flash_is)
-                        (confirmed_boots_new ran keeps done_here dev leg it whole_boot write write_is
+                        (confirmed_boots_new ran keeps done_here dev leg it whole_boot write
+                            write_is
                         last kept
                         (ap is_done (subst AreDone (closed.ends.legs_are ∙ legs_are) done).1.1.0));
                   }

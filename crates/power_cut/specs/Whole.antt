@@ -133,7 +133,8 @@ module _ (confirms : CutDevice Ram → Bor Booted → Bor Rewrite → Ran → Ty
 
 -- an update on a device, as far as this: a session, a boot and a confirmation, and the first leg
 -- whose end isn't Done is the last. `writes` tells which sessions there may be.
-pub record IsTrial (writes : Ran → Type 0) (confirms : CutDevice Ram → Bor Booted → Bor Rewrite → Ran → Type 0)
+pub record IsTrial (writes : Ran → Type 0)
+    (confirms : CutDevice Ram → Bor Booted → Bor Rewrite → Ran → Type 0)
     (layout : Places) (first : List ℕ) (upto : Upto) (t : Trial) : Type 0 where
   pub session : Ran
   pub written : writes session
@@ -168,8 +169,8 @@ abbrev pub last_end : LegEnd → List Leg → LegEnd
 last_end end [] = end
 last_end end (leg ∷ legs) = last_end leg.end legs
 
--- how an update ends that began on this device: with a cut or a failure exactly where the chosen step
--- was begun in it, which is then its last one
+-- how an update ends that began on this device: with a cut or a failure exactly where the chosen
+-- step was begun in it, which is then its last one
 abbrev pub EndsAsChosen : CutDevice Ram → List Leg → Type 0
 EndsAsChosen dev legs =
     HasEnd dev (dev.steps + total_steps legs) (last_end Done legs) (last_end Done legs)
