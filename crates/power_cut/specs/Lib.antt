@@ -1,0 +1,7 @@
+-- In reading order: the device, a leg of two cores, what holds of the flash meanwhile, what a runner
+-- has to keep, and a whole update.
+pub mod Device
+pub mod Leg
+pub mod Update
+pub mod Kept
+pub mod Whole
