@@ -1,0 +1,3 @@
+pub mod Worker
+pub mod Room
+pub mod Works

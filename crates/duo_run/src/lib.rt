@@ -1,0 +1,6 @@
+//! Both cores of an update in two threads: one drives it, and the other works on a script.
+#![tactic(auto)]
+
+mod actions;
+mod room;
+mod worker;
