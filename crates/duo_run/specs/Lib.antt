@@ -1,3 +1,4 @@
 pub mod Worker
 pub mod Room
 pub mod Works
+pub mod Pages

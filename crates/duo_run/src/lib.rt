@@ -2,5 +2,6 @@
 #![tactic(auto)]
 
 mod actions;
+mod pages;
 mod room;
 mod worker;
