@@ -1,7 +1,7 @@
 -- What is known of the bus once the turn is taken, and what may be given back after a call of it.
 use Rattle.std.proofs.Common.{◌≡◌, ℕ, zero, suc, ◌+◌, ◌<◌, ◌≤◌, ◌++◌, ◌∙◌, ap, subst, sym, refl, inl, inr, ◌⊎◌, List, [], ◌∷◌, Option, Some, None, Bool, true, false, append-nil, append_assoc, eq-eqb, length, drop, ◌-◌, length-append, arith, Result, Ok, Err}
 use Rattle.std.proofs.Math.Seq.{drop-append_seam}
-use Rattle.std.specs.Prelude.{IsNone, IsSome, IfSome, OnOk, OnErr, cond, ◌==◌}
+use Rattle.std.specs.Prelude.{IsNone, IsSome, IfSome, OnOk, OnErr, cond, ◌==◌, ◌≢◌, ◌↔◌}
 use Rattle.std.specs.Int.{IsBitSet}
 use Rattle.core_state.specs.declared.registers.Record.{Record}
 use Rattle.core_state.specs.declared.registers.Regs.{Regs}
@@ -33,12 +33,14 @@ use Rattle.bus_hub.specs.declared.did.Running.{Running as Going}
 use Rattle.bus_hub.specs.declared.entry.Act.{Act}
 use Rattle.bus_hub.specs.declared.entry.Act.TheVariants.{Set as SetAct}
 use Rattle.bus_hub.specs.Room.{HasRoom as HasRoomNow}
-use Rattle.bus_hub.specs.Fetch.{space_at, IsServed}
+use Rattle.bus_hub.specs.Fetch.{space_at, IsServed, IsFixed, IsUnmapped}
 use Rattle.bus_hub.specs.Fetch as serving
 use Rattle.bus_hub.specs.Log.{run_of, opening}
 use Rattle.bus_hub.specs.Hub.{Hub, Fits, record_of, with_record, noted, core_of, needs, byte_needs, owed}
 use Rattle.bus_hub.specs.Shares.{Begun, own_begun, open_from, begun_of}
 use Rattle.bus_hub.specs.Told.{asked, started, polled, held, number_of, set_to, with_device, running_step, ended_step, after_poll, fetch_items, added, fetched, Fetches, IsFetched, IsDenied}
+use Rattle.bus_hub.proofs.Fixing.{not_unmapped}
+use Rattle.mmu_map.specs.Map.{Map}
 use Rattle.std.proofs.lemmas.Result.{on_ok_weaker}
 use Rattle.nor_device.specs.Nor.{IsPart}
 use Rattle.cache_gate.specs.Own.{HasRoom, HasRoomIn, OnBase, IsPartOf, held_of, behind}
@@ -188,6 +190,13 @@ module _ {D S K : Type 0} (stands : Hub D K → Base S K → List Did → List D
   by_base x None c mine theirs Q each s = tt
   by_base x (Some b) zero mine theirs Q each s = each b s
   by_base x (Some b) (suc c) mine theirs Q each s = each b s
+
+  -- whichever core's share it is, the base and both shares are stood for
+  pub in_either_order : (x : Hub D K) (b : Base S K) (c : ℕ) (mine theirs : List Did) (Q : Type 0)
+      → ((left right : List Did) → stands x b left right → Q)
+      → in_order (stands x b) c mine theirs → Q
+  in_either_order x b zero mine theirs Q each s = each mine theirs s
+  in_either_order x b (suc c) mine theirs Q each s = each theirs mine s
 
   module _ (s t : Seated (Base S K) Did) (x : Hub D K) (taken : HasTaken s t)
       (known : Knows x t.view) where
@@ -628,3 +637,22 @@ module _ {D S K : Type 0} (stands : Hub D K → Base S K → List Did → List D
         stands_by = holds;
         part = subst (λ (m : ℕ). IsPart (bytes x.dev) at m out) (sym many) part;
       }) known.stands_by))
+
+-- what is fixed of the base's map is not refused as unmapped
+pub fetches_fixed : {S K : Type 0} (s t : Seated (Base S K) Did) (m : Map) (size at len : ℕ)
+    (r : Result (Unit {0}) FetchNo) → HasTaken s t
+    → IfSome t.view.base (λ b. (at len : ℕ) → IsFixed b.map (length b.flash) at len
+    → IsFixed m size at len)
+    → (r ≡ Err refusals.Unmapped ↔ IsUnmapped m size at len)
+    → OnBase s.view.base (λ b. IsFixed b.map (length b.flash) at len) → r ≢ Err refusals.Unmapped
+fetches_fixed {S} {K} s t m size at len r taken range unmapped fixed refused =
+    not_unmapped m size at len
+    (there s.view.base (subst (λ (o : Option (Base S K)). IfSome o (λ b. (at len : ℕ)
+    → IsFixed b.map (length b.flash) at len → IsFixed m size at len))
+    (ap (λ (z : Seated (Base S K) Did). z.view.base) taken.1) range) fixed)
+    (unmapped.0 refused) where
+      there : (o : Option (Base S K)) → IfSome o (λ b. (at len : ℕ)
+          → IsFixed b.map (length b.flash) at len → IsFixed m size at len)
+          → OnBase o (λ b. IsFixed b.map (length b.flash) at len) → IsFixed m size at len
+      there None each is_fixed = absurd is_fixed
+      there (Some b) each is_fixed = each at len is_fixed

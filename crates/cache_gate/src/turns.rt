@@ -1,6 +1,6 @@
 //! One turn each: the bus is taken, one call of it is made, and it goes back.
 
-ghost use Rattle.std.specs.Prelude.{◌≡◌, ◌≢◌, ◌↔◌, ◌+◌, ◌<◌, ◌≤◌, ◌^◌, true, false, [], ◌∷◌, length, None, IsNone, IsSome, IfSome, OnOk, Err};
+ghost use Rattle.std.specs.Prelude.{◌≡◌, ◌≢◌, ◌↔◌, ℕ, ◌+◌, ◌<◌, ◌≤◌, ◌^◌, true, false, [], ◌∷◌, length, None, IsNone, IsSome, IfSome, OnOk, Err};
 ghost use Rattle.core_state.specs.Registers.{saved_and_masked, restored};
 ghost use Rattle.duo_machine.specs.declared.machine.Phase.TheVariants.{Running, Quiet};
 ghost use Rattle.duo_machine.specs.Table.{IsAwake};
@@ -10,11 +10,11 @@ ghost use Rattle.park_words.specs.Told.{HasTaken, Known};
 ghost use Rattle.bus_hub.specs.declared.did.Did.TheVariants.{Noted, Mapping, Unmapping};
 ghost use Rattle.bus_hub.specs.declared.entry.Act.TheVariants.{Set};
 ghost use Rattle.bus_hub.specs.declared.reads.FetchNo.TheVariants as refusals;
-ghost use Rattle.bus_hub.specs.Fetch.{IsServed};
+ghost use Rattle.bus_hub.specs.Fetch.{IsServed, IsFixed};
 ghost use Rattle.bus_hub.specs.Log.{IsNote};
 ghost use Rattle.bus_hub.specs.Told.{asked, started};
 ghost use Rattle.cache_gate.specs.Works.{Worked, work_in, events_in};
-ghost use Rattle.cache_gate.specs.Own.{held_of, behind, kept, HasRoom, IsInside, MayMake, IsPartOf};
+ghost use Rattle.cache_gate.specs.Own.{OnBase, held_of, behind, kept, HasRoom, IsInside, MayMake, IsPartOf};
 ghost use Rattle.cache_gate.specs.Said.{HasPolled, HasRead, GivesRoom, is_begun, number_of_open, fetch_event, begin_event, done_event};
 ghost use Rattle.bus_hub.specs.Hub.{Fits};
 ghost use Rattle.bus_hub.specs.Shares.{open_from, own_begun, made, moved_by};
@@ -31,7 +31,8 @@ use std::sync::Wait;
 use std::thread;
 
 /// What a core knows of the bus that it took, by its own share alone: that this share fits its room, what room
-/// the journal has for it, its part of the duty, which step of its own runs, and how long the flash is.
+/// the journal has for it, its part of the duty, which step of its own runs, how long the flash is,
+/// and which ranges stay fixed.
 fn known<D: Crash, K: Duty>(bus: &Bus<D, K>, seat: &CoreSeat<Bus<D, K>>)
     requires { Known ⟦<Bus<D, K> as Records>⟧.records ⟦<Bus<D, K> as Records>⟧.runs
         ⟦<Bus<D, K> as Records>⟧.stands bus.now seat.now.view }
@@ -44,10 +45,14 @@ fn known<D: Crash, K: Duty>(bus: &Bus<D, K>, seat: &CoreSeat<Bus<D, K>>)
     ensures step { IfSome seat.now.view.base (λ _. own_begun seat.now.view.core bus.now.running
         ≡ open_from None seat.now.view.share) }
     ensures size { IfSome seat.now.view.base (λ b. length b.flash ≡ D.size bus.now.dev) }
+    ensures range { IfSome seat.now.view.base (λ b. (at len : ℕ)
+        → IsFixed b.map (length b.flash) at len
+        → IsFixed bus.now.map (D.size bus.now.dev) at len) }
 {
     let _core = seat.core();
     bus.known();
     bus.lasting();
+    bus.fixed();
 }
 
 /// The bus, once the turn is free.
@@ -182,6 +187,8 @@ pub(crate) fn fetch<R: Wait, D: Crash, K: Duty>(
     ensures works { Worked (work_in (fetch_event at result)) seat.old.view seat.new.view }
     ensures masked { result ≢ Err refusals.Unmapped
         → result ≡ Err refusals.Masked ↔ (¬ IsServed seat.old.view.registers.regs.mask at) }
+    ensures fixed { OnBase seat.old.view.base (λ b. IsFixed b.map (length b.flash) at len)
+        → result ≢ Err refusals.Unmapped }
 {
     let mut bus = take(rt, words, seat);
     known(&bus, seat);

@@ -6,3 +6,4 @@ mod JoinLemmas
 pub mod WriteLemmas
 pub mod EraseLemmas
 pub mod PartLemmas
+pub mod OpenLemmas

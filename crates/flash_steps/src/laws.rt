@@ -1,12 +1,13 @@
 //! What the steps of every write and every erase make of a flash.
 
-ghost use Rattle.std.specs.Prelude.{◌≡◌, ◌≤◌, ◌<◌, ◌+◌, ◌/◌, ◌%◌, ℕ, All, List, [], ◌∷◌, ◌++◌, length, replicate, Ok};
+ghost use Rattle.std.specs.Prelude.{◌≡◌, ◌≤◌, ◌<◌, ◌↔◌, ◌+◌, ◌/◌, ◌%◌, ℕ, true, All, List, [], ◌∷◌, ◌++◌, length, replicate, Ok};
 ghost use Rattle.std.specs.List.{AllByRecursion};
+ghost use Rattle.nor_device.specs.declared.step.Step.{Step};
 ghost use Rattle.nor_device.specs.declared.step.Step.TheVariants.{Erase, Program};
-ghost use Rattle.nor_device.specs.Flash.{after_steps, applied};
+ghost use Rattle.nor_device.specs.Flash.{after_steps, applied, end_of, start_of};
 ghost use Rattle.partition_table.specs.declared.row.Row.{Row as Shown};
 ghost use Rattle.partition_table.specs.Rules.{FitsFlash};
-ghost use Rattle.flash_steps.specs.Parts.{LiesInPart, part_erase_steps, part_write_steps};
+ghost use Rattle.flash_steps.specs.Parts.{IsOpenAddress, LiesInOpenPart, LiesInPart, open_addresses, part_erase_steps, part_write_steps};
 ghost use Rattle.flash_steps.specs.Rules.{erase_checked, write_checked};
 ghost use Rattle.flash_steps.specs.Steps.{FollowOn, IsErase, IsErasedAt, IsPageProgram, LiesIn, erase_steps, pages_in, with_part, write_steps};
 
@@ -66,4 +67,19 @@ pub fn laws_of_parts()
     ensures erase { (flash : ℕ) (rows : List Shown) (label : List ℕ) (offset len : ℕ) (row : Shown)
         → FitsFlash flash rows → erase_checked rows label offset len ≡ Ok row
         → AllByRecursion (LiesInPart row) (part_erase_steps rows label offset len) }
+{}
+
+/// Whatever is written and erased, the steps lie in partitions that may be changed (`write`,
+/// `erase`), so they change open addresses alone (`changed`); these are the addresses of such
+/// partitions (`exact`).
+pub fn laws_of_open_parts()
+    ensures write { (rows : List Shown) (label : List ℕ) (offset : ℕ) (bytes : List ℕ)
+        → AllByRecursion (LiesInOpenPart rows) (part_write_steps rows label offset bytes) }
+    ensures erase { (flash : ℕ) (rows : List Shown) (label : List ℕ) (offset len : ℕ)
+        → FitsFlash flash rows
+        → AllByRecursion (LiesInOpenPart rows) (part_erase_steps rows label offset len) }
+    ensures changed { (rows : List Shown) (step : Step) → LiesInOpenPart rows step
+        → (at : ℕ) → start_of step ≤ at → at < end_of step → open_addresses rows at ≡ true }
+    ensures exact { (rows : List Shown) (at : ℕ)
+        → (open_addresses rows at ≡ true) ↔ IsOpenAddress rows at }
 {}

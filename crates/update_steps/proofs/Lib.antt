@@ -5,3 +5,5 @@ pub mod BesideLemmas
 pub mod SparedLemmas
 pub mod StepLemmas
 pub mod VerdictLemmas
+pub mod TableLemmas
+pub mod ApartLemmas

@@ -1,6 +1,6 @@
 //! What the steps of an update leave, over all flashes.
 
-ghost use Rattle.std.specs.Prelude.{◌≡◌, ◌≢◌, ◌⊎◌, ◌<◌, ◌≤◌, ◌++◌, ℕ, All, Bool, true, List, [], ◌∷◌, Some, None, length, slice_get};
+ghost use Rattle.std.specs.Prelude.{◌≡◌, ◌≢◌, ◌⊎◌, ◌<◌, ◌≤◌, ◌++◌, ℕ, All, Bool, true, List, [], ◌∷◌, Some, None, Ok, drop, length, slice_get, take};
 ghost use Rattle.nor_device.specs.declared.step.Step.{Step};
 ghost use Rattle.nor_device.specs.Flash.{after_steps, applied, end_of, start_of};
 ghost use Rattle.nor_device.specs.Torn.{Torn};
@@ -8,7 +8,10 @@ ghost use Rattle.crash_images.specs.Crash.{LeftAfter};
 ghost use Rattle.partition_table.specs.declared.app.App.{App};
 ghost use Rattle.partition_table.specs.declared.app.App.TheVariants.{Ota};
 ghost use Rattle.partition_table.specs.declared.row.Row.{Row as Shown};
-ghost use Rattle.partition_table.specs.Layout.{IsPlaced, Places, layout_in};
+ghost use Rattle.partition_table.specs.Layout.{IsPlaced, Places, layout_in, layout_of};
+ghost use Rattle.partition_table.specs.Rules.{FitsFlash};
+ghost use Rattle.partition_table.specs.Table.{table_of};
+ghost use Rattle.flash_steps.specs.Parts.{LiesInOpenPart, open_addresses};
 ghost use Rattle.otadata.specs.Entry.{IsStored};
 ghost use Rattle.boot_select.specs.Boots.{entries_in, images_in};
 ghost use Rattle.rollback.specs.declared.rewrite.Rewrite.{Rewrite};
@@ -82,6 +85,27 @@ pub fn aimed_updates_open()
         → All (λ b. b < 256) new → IsOpening layout flash aim old new }
 {}
 
+/// The rows of a table obey its rules (`fits`). The layout by such rows lies in order in a flash of
+/// that size (`placed`), and has 1 to 16 slots (`some`, `few`); so does that of a flash by its table
+/// (`flash`). What `boot_run::aim` answers for a flash with that layout opens an update there,
+/// from the image of the application that runs (`opens`).
+pub fn tables_open_updates()
+    ensures fits { (bytes : List ℕ) (size : ℕ) (rows : List Shown)
+        → table_of bytes size ≡ Ok rows → FitsFlash size rows }
+    ensures placed { (size : ℕ) (rows : List Shown) (layout : Places) → FitsFlash size rows
+        → layout_of rows ≡ Ok layout → IsPlaced layout size }
+    ensures some { (rows : List Shown) (layout : Places) → layout_of rows ≡ Ok layout
+        → 0 < length layout.slots }
+    ensures few { (rows : List Shown) (layout : Places) → layout_of rows ≡ Ok layout
+        → length layout.slots ≤ 16 }
+    ensures flash { (flash : List ℕ) (layout : Places) → layout_in flash ≡ Ok layout
+        → IsPlaced layout (length flash) × (0 < length layout.slots) × (length layout.slots ≤ 16) }
+    ensures opens { (flash : List ℕ) (layout : Places) (aim : Aim) (new : List ℕ)
+        → layout_in flash ≡ Ok layout → All (λ b. b < 256) new
+        → IsAimed layout (images_in held layout flash) (entries_in layout flash) (length new) aim
+        → (old : List ℕ) × IsOpening layout flash aim old new }
+{}
+
 /// An update begins on `flash`, beside an application that runs from the image `old`. Of each flash
 /// that a loss of power may leave of its steps, at any moment, the old application boots, or, where
 /// the new image is whole, the new one, or the entry that is found in the sector of the next one
@@ -135,6 +159,21 @@ pub fn steps_stand_beside_another_core()
         (now left : List ℕ) → StandsBeside first made rest others now
         → ((i : ℕ) → start_of step ≤ i → i < end_of step → others i ≡ true)
         → Torn now step left → StandsBeside first made rest others left }
+{}
+
+/// The partitions of a table that may be changed are apart from the table, the OTA data and the
+/// applications' partitions, in the layout by its rows (`rows`), and so in that of a flash (`flash`).
+/// A step of another core in such a partition leaves what stands (`stands`).
+pub fn open_partitions_are_apart()
+    ensures rows { (size : ℕ) (rows : List Shown) (layout : Places) → FitsFlash size rows
+        → layout_of rows ≡ Ok layout → IsApart layout (open_addresses rows) }
+    ensures flash { (flash : List ℕ) (rows : List Shown) (layout : Places)
+        → table_of (take 0xC00 (drop 0x8000 flash)) (length flash) ≡ Ok rows
+        → layout_in flash ≡ Ok layout → IsApart layout (open_addresses rows) }
+    ensures stands { (first : List ℕ) (made rest : List Step) (rows : List Shown) (step : Step)
+        (now left : List ℕ) → StandsBeside first made rest (open_addresses rows) now
+        → LiesInOpenPart rows step → Torn now step left
+        → StandsBeside first made rest (open_addresses rows) left }
 {}
 
 /// So it is of an update beside another core that may write neither to the table and the OTA data

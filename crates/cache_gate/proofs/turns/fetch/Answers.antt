@@ -1,5 +1,5 @@
 use Rattle.std.proofs.Common.{rules, refl}
-use Rattle.cache_gate.proofs.Taken.{room_taken, fetches, fetch_back}
+use Rattle.cache_gate.proofs.Taken.{room_taken, fetches, fetch_back, fetches_fixed}
 use Rattle.cache_gate.proofs.turns.fetch.Goals as goal
 
 pub fetch-answer-requires-clause-room : goal.fetch-answer-requires-clause-room
@@ -26,3 +26,9 @@ returns-clause-exact g c =
     c.known.ensures.fits n.bytes n.size n.off n.steps n.faults n.setting n.may_refuse n.must_refuse
     c.args.k c.args.at c.args.len c.«record».result c.«record».ensures c.requires.running
     c.fetch-answer.result c.fetch-answer.ensures.by_answer refl
+
+pub returns-clause-fixed : goal.returns-clause-fixed
+returns-clause-fixed g c =
+    fetches_fixed c.args.seat.now c.take-bus.new.seat c.take-bus.result.map
+    (g.D.Nor.size c.take-bus.result.dev) c.args.at c.args.len c.fetch-answer.result
+    c.take-bus.ensures.taken c.known.ensures.range c.fetch-answer.ensures.unmapped
