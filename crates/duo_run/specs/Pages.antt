@@ -1,11 +1,11 @@
 -- The pages that the cache shows of an application that runs, and where its driver looks.
-use Rattle.std.specs.Prelude.{◌≡◌, ℕ, ◌+◌, ◌*◌, ◌/◌, ◌%◌, ◌≤◌, List, Option, Some, None}
+use Rattle.std.specs.Prelude.{◌≡◌, ℕ, ◌+◌, ◌*◌, ◌/◌, ◌%◌, ◌^◌, ◌<◌, ◌≤◌, List, Option, Some, None}
 use Rattle.image_layout.specs.declared.space.Space.{Space}
 use Rattle.image_layout.specs.declared.space.Space.TheVariants.{Data, Code}
 use Rattle.image_verify.specs.declared.info.SegmentNote.{SegmentNote}
 use Rattle.image_verify.specs.Info.{mapped_in}
 use Rattle.mmu_map.specs.Place.{pages_in, start_of}
-use Rattle.mmu_map.specs.Map.{Map, empty, fixed}
+use Rattle.mmu_map.specs.Map.{IsFreeRun, Map, empty, fixed}
 
 -- where the page of an address begins
 abbrev pub page_start : ℕ → ℕ
@@ -55,3 +55,11 @@ pub record AreInPlace (size offset : ℕ) (notes : List SegmentNote) : Type 0 wh
   pub aligned : offset % 65536 ≡ 0
   pub placed : (space : Space) (note : SegmentNote) → mapped_in space notes ≡ Some note
       → IsInPlace size offset space note
+
+-- the pages of a segment can be fixed in a map
+pub record CanFix (offset : ℕ) (m : Map) (note : SegmentNote) : Type 0 where
+  pub free : IsFreeRun m (page_start note.load) (pages_touched note)
+  pub flash : first_flash_page offset note + pages_touched note ≤ 256
+  pub few : pages_touched note ≤ 64
+  pub place : offset + note.place < 2 ^ 32
+  pub end : note.load + note.length < 2 ^ 31

@@ -1,8 +1,7 @@
 //! The pages that the cache shows of an application that runs.
 
-ghost use Rattle.std.specs.Prelude.{◌≡◌, ◌+◌, ◌≤◌, ◌<◌, ◌^◌, IfSome};
-ghost use Rattle.mmu_map.specs.Map.{IsFreeRun};
-ghost use Rattle.duo_run.specs.Pages.{AreInPlace, application_pages, first_flash_page, page_start, pages_touched, probe_in, with_segment};
+ghost use Rattle.std.specs.Prelude.{◌≡◌, ◌^◌, IfSome};
+ghost use Rattle.duo_run.specs.Pages.{AreInPlace, CanFix, application_pages, probe_in, with_segment};
 
 use image_layout::Space;
 use image_verify::{ImageInfo, SegmentNote};
@@ -13,29 +12,25 @@ const PAGE_SIZE: u32 = 65_536;
 
 /// The pages of an application that begins at an offset of the flash: of the segment that each space
 /// maps, all pages that its load addresses touch, fixed to the flash pages in which its data stand.
-#[tactic(auto, using(crate::proofs::PageLemmas::data_free, crate::proofs::PageLemmas::code_free))]
+#[tactic(auto, using(crate::proofs::PageLemmas::data_can, crate::proofs::PageLemmas::code_can))]
 pub(crate) fn application_pages(offset: u32, info: &ImageInfo) -> Pages
     requires placed { AreInPlace (2 ^ 24) offset info.now.segments.items }
     ensures exact { result ≡ application_pages offset info.now.segments.items }
 {
     let mut pages = Pages::new();
-    if let Some(data) = info.mapped(Space::Data) {
-        fix_segment(&mut pages, offset, &data);
-    }
-    if let Some(code) = info.mapped(Space::Code) {
-        fix_segment(&mut pages, offset, &code);
-    }
+    fix_segment(&mut pages, offset, info.mapped(Space::Data));
+    fix_segment(&mut pages, offset, info.mapped(Space::Code));
     pages
 }
 
-/// Fixes the pages of a segment.
-fn fix_segment(pages: &mut Pages, offset: u32, note: &SegmentNote)
-    requires free { IsFreeRun pages.old (page_start note.now.load) (pages_touched note.now) }
-    requires flash { first_flash_page offset note.now + pages_touched note.now ≤ 256 }
-    requires offset { offset + note.now.place < 2 ^ 32 }
-    requires length { note.now.load + note.now.length < 2 ^ 32 }
-    ensures exact { pages.new ≡ with_segment offset (Some note.now) pages.old }
+/// Fixes the pages of a segment, where there is one.
+fn fix_segment(pages: &mut Pages, offset: u32, note: Option<SegmentNote>)
+    requires { IfSome note (CanFix offset pages.old) }
+    ensures exact { pages.new ≡ with_segment offset note pages.old }
 {
+    let Some(note) = note else {
+        return;
+    };
     let at = note.load / PAGE_SIZE * PAGE_SIZE;
     let flash_page = (offset + note.place) / PAGE_SIZE;
     let count = (note.load % PAGE_SIZE + note.length + (PAGE_SIZE - 1)) / PAGE_SIZE;
