@@ -1,6 +1,5 @@
 -- What the second core has to be to work on its script, and what it is then.
 use Rattle.std.specs.Prelude.{◌≡◌, ◌<◌, ◌≤◌, ◌^◌, ℕ, List, length, Result}
-use Rattle.std.specs.List.{AllByRecursion}
 use Rattle.nor_device.specs.declared.step.Step.{Step}
 use Rattle.nor_device.specs.declared.nor.NorFault.{NorFault}
 use Rattle.partition_table.specs.declared.row.Row.{Row}
@@ -32,7 +31,6 @@ module _ {S K P : Type 0} (part : K → ℕ → P) (grants : P → Step → Type
   -- the core can do all actions of a script
   pub record CanWork (rows : List Row) (script : List Action) (o : Own (Base S K) Did)
       : Type 0 where
-    pub bounds : AllByRecursion IsInBounds script
     pub mask : o.regs.mask ≤ 3
     pub base : OnBase o.base (FitsBase rows)
     pub room : HasRoom o.base o.core o.share (entries_of script) (bytes_of script)

@@ -2,6 +2,14 @@
 #![tactic(auto)]
 
 mod actions;
+<<<<<<< HEAD
 mod pages;
+=======
+mod laws;
+>>>>>>> 7d9c54912e86b81e663b2519dfd188659b6645c9
 mod room;
+#[cfg(test)]
+mod tests;
 mod worker;
+
+pub use laws::laws_of_workers;
