@@ -1,6 +1,6 @@
 -- The duty of an update: what it is for, how far the driver has come, what each core may do, and
 -- which flashes are good meanwhile.
-use Rattle.std.specs.Prelude.{◌≡◌, ◌≢◌, ◌==◌, ℕ, List, [], ◌∷◌, ◌++◌, drop, length, slice_get, take, Option, Some, None, Ok, if◌then◌else◌}
+use Rattle.std.specs.Prelude.{◌≡◌, ◌≢◌, ◌==◌, ℕ, List, [], ◌∷◌, ◌++◌, drop, length, slice_get, take, Some, None, Ok, if◌then◌else◌}
 use Rattle.nor_device.specs.declared.step.Step.{Step}
 use Rattle.partition_table.specs.declared.row.Row.{Row}
 use Rattle.partition_table.specs.Layout.{Places, layout_of}
@@ -66,9 +66,10 @@ course_after course c step = if c == course.driver then driven course step else 
 
 -- ---- what each core may do
 
--- what decides of what a core may do: of the driver its steps to come, of the other core the rows
+-- what decides of what a core may do: of the driver its steps, of the other core the rows
 abbrev pub part_of : Course → ℕ → UpdatePart
-part_of course c = if c == course.driver then Driver course.rest else Other course.rows
+part_of course c =
+    if c == course.driver then Driver course.made course.rest else Other course.rows
 
 -- a step is the first of these
 abbrev pub IsNext : List Step → Step → Type 0
@@ -77,12 +78,12 @@ IsNext (next ∷ rest) step = step ≡ next
 
 -- the driver may make its next step, and the other core each step in a partition of its own
 abbrev pub Grants : UpdatePart → Step → Type 0
-Grants (Driver rest) step = IsNext rest step
+Grants (Driver made rest) step = IsNext rest step
 Grants (Other rows) step = LiesInOpenPart rows step
 
 -- a step of its own later
 abbrev pub part_after : UpdatePart → Step → UpdatePart
-part_after (Driver rest) step = Driver (drop 1 rest)
+part_after (Driver made rest) step = Driver (made ++ (step ∷ [])) (drop 1 rest)
 part_after (Other rows) step = Other rows
 
 -- ---- which flashes are good
