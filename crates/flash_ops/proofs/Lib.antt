@@ -1,0 +1,5 @@
+-- Crates above cite these lemmas.
+pub mod Runs
+pub mod Can
+pub mod Pieces
+pub mod Bytes

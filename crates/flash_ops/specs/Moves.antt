@@ -1,5 +1,5 @@
 -- What the calls on a core do, one move after the other, and what its share shows of it.
-use Rattle.std.specs.Prelude.{◌≡◌, ℕ, zero, suc, ◌+◌, ◌/◌, List, [], ◌∷◌, ◌++◌, length, take, drop, replicate, Option, Some, None, Result, Ok, Err, ◌⊎◌}
+use Rattle.std.specs.Prelude.{◌≡◌, ℕ, zero, suc, ◌+◌, ◌/◌, List, [], ◌∷◌, ◌++◌, length, take, drop, Option, Some, None, Result, Ok, Err, ◌⊎◌}
 use Rattle.core_state.specs.declared.registers.Regs.{Regs}
 use Rattle.core_state.specs.Registers.{masked}
 use Rattle.nor_device.specs.declared.step.Step.{Step}
@@ -50,9 +50,14 @@ unfoldable pub write_moves : Option ℕ → ℕ → List ℕ → List Move
 write_moves probe at bytes =
     by_sixteen (periods_of (write_steps at bytes)) probe (write_steps at bytes)
 
+-- so many asks
+abbrev pub asks : ℕ → List Move
+asks zero = []
+asks (suc n) = Ask ∷ asks n
+
 -- a read of so many bytes: at most 4096 of them in a quiet period
 unfoldable pub read_moves : ℕ → List Move
-read_moves len = replicate ((len + 4095) / 4096) Ask
+read_moves len = asks ((len + 4095) / 4096)
 
 -- the steps among the moves
 abbrev pub steps_of : List Move → List Step

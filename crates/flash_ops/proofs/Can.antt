@@ -1,0 +1,114 @@
+-- What a core can still do behind a first part of the moves.
+use Rattle.std.proofs.Common.{◌≡◌, ℕ, ◌+◌, ◌*◌, ◌≤◌, ◌++◌, ◌∙◌, ap, subst, sym, refl, arith, List, [], ◌∷◌, length, Option, Some, None, Result, Ok, Err, append-nil}
+use Rattle.core_state.specs.declared.registers.Regs.{Regs}
+use Rattle.nor_device.specs.declared.step.Step.{Step}
+use Rattle.nor_device.specs.declared.nor.NorFault.{NorFault}
+use Rattle.bus_hub.specs.declared.did.Base.{Base}
+use Rattle.bus_hub.specs.declared.did.Did.{Did}
+use Rattle.bus_hub.specs.Hub.{needs, byte_needs}
+use Rattle.bus_hub.specs.Shares.{made, moved_by}
+use Rattle.bus_hub.proofs.Parts.{moved_by-append}
+use Rattle.cache_gate.specs.Own.{Own, Keeps, HasRoom, HasRoomIn, OnBase, did, saw}
+use Rattle.cache_gate.proofs.Rooms.{room_left}
+use Rattle.flash_ops.specs.Moves.{Move, Make, Look, Ask, Follows, HasRun, makes, looks, steps_of, entries_for, bytes_for}
+use Rattle.flash_ops.specs.Asked.{GrantsAll, MayMakeAll, HasRoomFor, CanLook, CanRun}
+use Rattle.flash_ops.proofs.Runs.{steps_of-append, entries_for-append, bytes_for-append, made_more, needs_follows, byte_needs_follows}
+
+module _ {P : Type 0} (grants : P → Step → Type 0) (moved : P → Step → P) where
+  pub grants_first : (p : P) (a b : List Step) → GrantsAll grants moved p (a ++ b)
+      → GrantsAll grants moved p a
+  grants_first p [] b all = tt
+  grants_first p (step ∷ a) b all = (all.0, grants_first (moved p step) a b all.1)
+
+  pub grants_then : (p : P) (a b : List Step) → GrantsAll grants moved p (a ++ b)
+      → GrantsAll grants moved (moved_by moved p a) b
+  grants_then p [] b all = all
+  grants_then p (step ∷ a) b all = grants_then (moved p step) a b all.1
+
+  pub grants_both : (p : P) (a b : List Step) → GrantsAll grants moved p a
+      → GrantsAll grants moved (moved_by moved p a) b → GrantsAll grants moved p (a ++ b)
+  grants_both p [] b first later = later
+  grants_both p (step ∷ a) b first later =
+      (first.0, grants_both (moved p step) a b first.1 later)
+
+module _ {S K P : Type 0} (part : K → ℕ → P) (grants : P → Step → Type 0) (moved : P → Step → P)
+  where
+    may_first : (base : Option (Base S K)) (c : ℕ) (share : List Did) (a b : List Step)
+        → MayMakeAll part grants moved base c share (a ++ b)
+        → MayMakeAll part grants moved base c share a
+    may_first None c share a b may = absurd may
+    may_first (Some base) c share a b may =
+        grants_first grants moved (moved_by moved (part base.duty c) (made share)) a b may
+
+    may_then : (base : Option (Base S K)) (c : ℕ) (share items : List Did) (a b : List Step)
+        → made (share ++ items) ≡ made share ++ a
+        → MayMakeAll part grants moved base c share (a ++ b)
+        → MayMakeAll part grants moved base c (share ++ items) b
+    may_then None c share items a b more may = absurd may
+    may_then (Some base) c share items a b more may =
+        subst (λ (p : P). GrantsAll grants moved p b)
+        (sym (ap (λ (l : List Step). moved_by moved (part base.duty c) l) more
+        ∙ moved_by-append moved (part base.duty c) (made share) a))
+        (grants_then grants moved (moved_by moved (part base.duty c) (made share)) a b may)
+
+    room_first : (base : Option (Base S K)) (c : ℕ) (share : List Did) (a b : List Move)
+        → HasRoomFor base c share (a ++ b) → HasRoomFor base c share a
+    room_first None c share a b room = absurd room
+    room_first (Some base) c share a b room =
+        let e = entries_for-append a b in
+        let f = bytes_for-append a b in
+        let x = room.entries_fit in
+        let y = room.bytes_fit in
+        record { entries_fit = omega arith; bytes_fit = omega arith }
+
+    room_then : (base : Option (Base S K)) (c : ℕ) (share items : List Did) (a b : List Move)
+        → needs items ≡ entries_for a → byte_needs items ≡ bytes_for a
+        → HasRoomFor base c share (a ++ b) → HasRoomFor base c (share ++ items) b
+    room_then base c share items a b few small room =
+        let e : entries_for (a ++ b) ≡ entries_for b + entries_for a =
+        let x = entries_for-append a b in omega arith in
+        let f : bytes_for (a ++ b) ≡ bytes_for b + bytes_for a =
+        let x = bytes_for-append a b in omega arith in
+        room_left base c share items (entries_for b) (bytes_for b) (entries_for a) (bytes_for a)
+        (subst (λ (z : ℕ × ℕ). HasRoom base c share z.0 z.1) (λ i. (e i, f i)) room)
+        (omega arith) (omega arith)
+
+    -- of the first part
+    pub can_first : (a b : List Move) (probe : Option ℕ) (o : Own (Base S K) Did)
+        → CanRun part grants moved (a ++ b) probe o → CanRun part grants moved a probe o
+    can_first a b probe o can = record {
+      may = may_first o.base o.core o.share (steps_of a) (steps_of b)
+          (subst (λ (s : List Step). MayMakeAll part grants moved o.base o.core o.share s)
+          (steps_of-append a b) can.may);
+      room = room_first o.base o.core o.share a b can.room;
+      look = can.look;
+    }
+
+    -- of the rest, once the first part was made
+    pub can_then : (k : ℕ) (a b : List Move) (probe : Option ℕ) (o p : Own (Base S K) Did)
+        → CanRun part grants moved (a ++ b) probe o → HasRun k a (Ok tt) o p
+        → CanRun part grants moved b probe p
+    can_then k a b probe o p can run =
+        subst (λ (z : Own (Base S K) Did). CanRun part grants moved b probe z) (sym run.adds.is)
+        (record {
+          may = may_then o.base o.core o.share run.items (steps_of a) (steps_of b)
+              (made_more k o.regs a o.share run.items run.ran)
+              (subst (λ (s : List Step). MayMakeAll part grants moved o.base o.core o.share s)
+              (steps_of-append a b) can.may);
+          room = room_then o.base o.core o.share run.items a b
+              (needs_follows k o.regs a run.items run.ran)
+              (byte_needs_follows k o.regs a run.items run.ran) can.room;
+          look = can.look;
+        })
+
+    -- beside walks that add nothing
+    pub can_kept : (ms : List Move) (probe : Option ℕ) (o p : Own (Base S K) Did) → Keeps o p
+        → CanRun part grants moved ms probe o → CanRun part grants moved ms probe p
+    can_kept ms probe o p x can =
+        subst (λ (z : Own (Base S K) Did). CanRun part grants moved ms probe z) (sym x.is)
+        (record { may = can.may; room = can.room; look = can.look })
+
+    -- with no look
+    pub can_blind : (ms : List Move) (probe : Option ℕ) (o : Own (Base S K) Did)
+        → CanRun part grants moved ms probe o → CanRun part grants moved ms None o
+    can_blind ms probe o can = record { may = can.may; room = can.room; look = tt }
