@@ -1,14 +1,12 @@
 -- The device of an update: a flash in memory whose power goes off, or which fails, in the step of a
 -- chosen number. What its calls may do, and how a leg on it ends.
-use Rattle.std.specs.Prelude.{◌≡◌, ◌⊎◌, ℕ, ◌+◌, ◌<◌, Bool, false, List, length, Option, Some, None}
+use Rattle.std.specs.Prelude.{◌≡◌, ℕ, ◌+◌, ◌<◌, Bool, true, false, List, length, Option, Some, None}
 use Rattle.nor_device.specs.declared.step.Step.{Step}
 use Rattle.nor_device.specs.declared.nor.StepEnd.{StepEnd}
 use Rattle.nor_device.specs.declared.nor.StepEnd.TheVariants as ends
 use Rattle.nor_device.specs.declared.nor.NorFault.{NorFault}
 use Rattle.nor_device.specs.Ram.{Ram}
 use Rattle.crash_images.specs.declared.cut.CutSetting.{CutSetting}
-use Rattle.crash_images.specs.declared.cut.Health.{Health}
-use Rattle.crash_images.specs.declared.cut.Health.TheVariants as is
 use Rattle.crash_images.specs.Cut.{CutDevice, CutMayEnd, CutMayTear, CutMayRefuse, IsAhead, IsBad, off_by, running_by}
 use Rattle.power_cut.specs.declared.legs.Leg.{Leg}
 use Rattle.power_cut.specs.declared.legs.LegEnd.{LegEnd}
@@ -55,11 +53,6 @@ MayRefuse set n why = CutMayRefuse RamMayEnd RamMayRefuse set n why
 abbrev pub MustRefuse : CutSetting (Unit {0}) → ℕ → Type 0
 MustRefuse set n = IsBad set.cut set.fail n
 
--- no step runs, and it answers
-pub record IsReady (dev : CutDevice Ram) : Type 0 where
-  pub idle : dev.inner.running ≡ None
-  pub sound : dev.health ≡ is.Sound
-
 -- the chosen step of this number was begun in the leg, and is its last
 pub record BrokeAt (chosen : Option ℕ) (before now k : ℕ) : Type 0 where
   pub chosen_is : chosen ≡ Some k
@@ -70,6 +63,12 @@ pub record BrokeAt (chosen : Option ℕ) (before now k : ℕ) : Type 0 where
 pub record IsUnbroken (dev : CutDevice Ram) (now : ℕ) : Type 0 where
   pub cut_ahead : IsAhead dev.cut now
   pub fail_ahead : IsAhead dev.fail now
+
+-- no step runs, the power is on, and a chosen step is still to come
+pub record IsReady (dev : CutDevice Ram) : Type 0 where
+  pub idle : running_in dev ≡ None
+  pub on : is_off dev ≡ false
+  pub ahead : IsUnbroken dev dev.steps
 
 -- the end of a leg that began on this device, by the number of its last step: where the chosen step
 -- was begun, it broke off there; else it has the end of a whole leg
@@ -90,21 +89,22 @@ IsWholeEnd (FirstByte byte) = Unit {0}
 IsWholeEnd Empty = Unit {0}
 IsWholeEnd (Bad why) = Unit {0}
 
--- how the device is behind a leg: its power is off exactly where the leg ends with a cut
-abbrev pub health_behind : LegEnd → Health
-health_behind Done = is.Sound
-health_behind (Device k) = is.Failed
-health_behind (Cut k) = is.Off
-health_behind (FirstByte byte) = is.Sound
-health_behind Empty = is.Sound
-health_behind (Bad why) = is.Sound
+-- the power went off in the leg
+abbrev pub is_cut : LegEnd → Bool
+is_cut Done = false
+is_cut (Device k) = false
+is_cut (Cut k) = true
+is_cut (FirstByte byte) = false
+is_cut Empty = false
+is_cut (Bad why) = false
 
 -- what a leg on this device leaves of it: no step runs; size and setting stay; the number of steps
--- rose by those of the leg; and the leg's end, which is this one where nothing broke off
+-- rose by those of the leg; the leg's end, which is this one where nothing broke off; and the power
+-- is off exactly where it ends with a cut
 pub record IsRan (old new : CutDevice Ram) (whole : LegEnd) (leg : Leg) : Type 0 where
-  pub idle : new.inner.running ≡ None
+  pub idle : running_in new ≡ None
   pub size : length new.inner.bytes ≡ length old.inner.bytes
   pub setting : setting_of new ≡ setting_of old
   pub steps : new.steps ≡ old.steps + leg.steps
   pub end : HasEnd old new.steps whole leg.end
-  pub health : new.health ≡ health_behind leg.end
+  pub power : is_off new ≡ is_cut leg.end

@@ -2,6 +2,7 @@
 //! the flash that is left.
 #![tactic(auto)]
 
+mod booting;
 mod legs;
 mod outcome;
 mod run;

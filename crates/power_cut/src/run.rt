@@ -1,6 +1,7 @@
 //! The update: a session, a boot and a confirmation, one after the other.
 
 ghost use Rattle.std.specs.Prelude.{◌≡◌, ◌<◌, ◌^◌, Some, Ok, IfOk, length};
+ghost use Rattle.std.specs.Borrow.{Bor};
 ghost use Rattle.nor_device.specs.Ram.{Ram};
 ghost use Rattle.crash_images.specs.Cut.{CutDevice};
 ghost use Rattle.partition_table.specs.declared.app.App.TheVariants.{Ota};
@@ -43,16 +44,16 @@ pub fn trial<U: Runner>(
     requires fresh { dev.steps ≡ 0 }
     requires small { length dev.inner.bytes < 2 ^ 32 }
     requires opens { Opens layout.now dev.inner.bytes aim.now image.now }
-    requires may_write { U.may_write runner.now dev aim.now image.now }
-    requires written { (ran : Left) → U.has_written runner.now dev aim.now image.now (Ok ran)
+    requires may_write { U.may_write runner.now dev aim image }
+    requires written { (ran : Left) → U.has_written runner.now dev aim image (Ok ran)
         → KeepsSession layout.now aim.now image.now dev ran }
-    requires may_confirm { (d : CutDevice Ram) (at : Started) (write : Written)
-        → MayConfirm layout.now dev.inner.bytes d at write → U.may_confirm runner.now d at write }
-    requires confirmed { (d : CutDevice Ram) (at : Started) (write : Written) (ran : Left)
-        → MayConfirm layout.now dev.inner.bytes d at write
-        → U.has_confirmed runner.now d at write (Ok ran) → KeepsConfirm layout.now write d ran }
+    requires may_confirm { (d : CutDevice Ram) (at : Bor Started) (write : Bor Written)
+        → MayConfirm layout.now dev.inner.bytes d at.now write.now → U.may_confirm runner.now d at write }
+    requires confirmed { (d : CutDevice Ram) (at : Bor Started) (write : Bor Written) (ran : Left)
+        → MayConfirm layout.now dev.inner.bytes d at.now write.now
+        → U.has_confirmed runner.now d at write (Ok ran) → KeepsConfirm layout.now write.now d ran }
     ensures trial { IfOk result (λ t. IsTrial
-        (λ ran. U.has_written runner.now dev aim.now image.now (Ok ran))
+        (λ ran. U.has_written runner.now dev aim.entry image.entry (Ok ran))
         (λ d at write ran. U.has_confirmed runner.now d at write (Ok ran))
         layout.now dev.inner.bytes upto t) }
     ensures boots { IfOk result (λ t.
