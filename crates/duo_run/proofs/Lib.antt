@@ -1,6 +1,4 @@
-<<<<<<< HEAD
 pub mod PageLemmas
-=======
 pub mod StepsLemmas
 pub mod ShareLemmas
 pub mod OpenLemmas
@@ -8,4 +6,3 @@ mod AskLemmas
 mod ActLemmas
 mod WorkLemmas
 mod RoomLemmas
->>>>>>> 7d9c54912e86b81e663b2519dfd188659b6645c9

@@ -2,11 +2,8 @@
 #![tactic(auto)]
 
 mod actions;
-<<<<<<< HEAD
 mod pages;
-=======
 mod laws;
->>>>>>> 7d9c54912e86b81e663b2519dfd188659b6645c9
 mod room;
 #[cfg(test)]
 mod tests;
