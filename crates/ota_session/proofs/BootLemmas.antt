@@ -1,5 +1,5 @@
 -- What boots behind all steps of the driver.
-use Rattle.std.proofs.Common.{◌≡◌, ℕ, ◌<◌, ◌≤◌, List, [], ◌∷◌, ◌++◌, length, Option, Some, IfSome, lit<, refl, sym, ap, ◌∙◌, subst, arith, append-nil}
+use Rattle.std.proofs.Common.{◌≡◌, ℕ, ◌<◌, List, [], ◌∷◌, ◌++◌, length, Option, Some, IfSome, lit<, sym, ap, ◌∙◌, subst, arith, append-nil}
 use Rattle.std.specs.Prelude.{slice_get}
 use Rattle.std.specs.List.{All}
 use Rattle.nor_device.specs.declared.step.Step.{Step}
@@ -27,11 +27,10 @@ use Rattle.boot_run.proofs.FrameLemmas.{left_images}
 use Rattle.boot_run.proofs.StoredLemmas.{entries_changed}
 use Rattle.flash_steps.specs.Parts.{open_addresses}
 use Rattle.update_steps.specs.Beside.{StandsBeside}
-use Rattle.update_steps.specs.Driver.{driver_steps}
 use Rattle.update_steps.proofs.SparedLemmas.{beside_done}
 use Rattle.update_steps.proofs.VerdictLemmas.{beside_all}
 use Rattle.ota_session.specs.Course.{Confirm, Confirms, Course, Install, Installs, IsFor, IsGood, Purpose, steps_for}
-use Rattle.ota_session.proofs.GoodLemmas.{apart, placed, shown}
+use Rattle.ota_session.specs.GoodLaws.{apart, placed, shown}
 
 module _ (first : List ℕ) (course : Course) (flash : List ℕ) (good : IsGood first course flash)
     (none : course.rest ≡ []) where

@@ -1,7 +1,7 @@
 -- Base first. Crates above cite these lemmas.
 pub mod NumberLemmas
-pub mod GoodLemmas
-pub mod CourseLemmas
-pub mod BootLemmas
+pub mod ImageLemmas
 pub mod PartLemmas
+pub mod ViewLemmas
+pub mod BootLemmas
 pub mod ReadLemmas

@@ -1,12 +1,14 @@
 -- Which step has a number among some steps.
-use Rattle.std.proofs.Common.{◌≡◌, ◌≤◌, ◌<◌, ℕ, zero, suc, ◌+◌, ◌-◌, ◌*◌, ◌/◌, ◌%◌, List, [], ◌∷◌, ◌++◌, length, take, drop, Some, refl, sym, ap, ◌∙◌, subst, arith}
-use Rattle.std.specs.Prelude.{◌↔◌, IsTrue, Bool, max, slice_get}
+use Rattle.std.proofs.Common.{◌≡◌, ◌≤◌, ◌<◌, Bool, true, false, ℕ, zero, suc, ◌+◌, ◌-◌, ◌/◌, ◌%◌, List, [], ◌∷◌, ◌++◌, length, take, drop, Some, refl, sym, ap, ◌∙◌, arith}
+use Rattle.std.specs.Prelude.{◌↔◌, ◌==◌, if◌then◌else◌, IsTrue, slice_get}
+use Rattle.std.proofs.lemmas.Bool.Decides.{nat_tests}
 use Rattle.std.proofs.lemmas.List.{drop-drop}
 use Rattle.nor_device.specs.declared.step.Step.{Step}
 use Rattle.nor_device.specs.declared.step.Step.TheVariants.{Erase, Program}
 use Rattle.flash_steps.specs.Steps.{erase_steps, erases, pages_in, programs, room_at, write_steps}
 use Rattle.update_steps.specs.Driver.{slot_erases, whole_sectors}
 use Rattle.ota_session.specs.Course.{IsNext}
+use Rattle.ota_session.specs.Numbers.{page_from}
 
 -- ---- lists
 
@@ -72,9 +74,17 @@ slot_erase at image i inside =
 
 -- ---- programs
 
--- where the page with this number begins, of those that bytes from an address on touch
-abbrev pub page_from : ℕ → ℕ → ℕ
-page_from at p = max ((at / 256 + p) * 256) at
+-- the page with this number begins in front of the end of the bytes
+pub page_within : (at len p : ℕ) → p < pages_in at len → page_from at p < at + len
+unfolding pages_in
+page_within at len p within = by (len == 0) refl within
+  where
+    by : (none : Bool) → (len == 0) ≡ none
+        → p < (if none then 0 else (at % 256 + len + 255) / 256) → page_from at p < at + len
+    by true is within = absurd (omega arith)
+    by false is within =
+        let some : 1 ≤ len = grind (arith, nat_tests) in
+        omega arith
 
 page_number : (n at : ℕ) (bytes : List ℕ) (p : ℕ) → p < n
     → slice_get (programs n at bytes) p
@@ -115,4 +125,12 @@ pub number_is : (steps : List Step) (n : ℕ) (found step : Step) (test : Bool)
 number_is steps n found step test is tells = record {
   0 = λ yes. is ∙ ap Some (sym (tells.0 yes));
   1 = λ there. tells.1 (let same = sym is ∙ there in cc);
+}
+
+-- a test of the next step behind so many
+pub next_is : (steps : List Step) (n : ℕ) (step : Step) (test : Bool)
+    → (IsTrue test ↔ (slice_get steps n ≡ Some step)) → (IsTrue test ↔ IsNext (drop n steps) step)
+next_is steps n step test tells = record {
+  0 = λ yes. next_from steps n step (tells.0 yes);
+  1 = λ next. tells.1 (next_to steps n step next);
 }

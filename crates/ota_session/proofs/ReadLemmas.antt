@@ -32,7 +32,7 @@ use Rattle.update_steps.specs.Session.{IsOpening}
 use Rattle.update_steps.proofs.DataLemmas.{aligned_row, data_begins}
 use Rattle.update_steps.proofs.SessionLemmas.{driver_is, sector_two}
 use Rattle.ota_session.specs.Course.{Course, Grants, IsGood, course_after, part_after, part_of}
-use Rattle.ota_session.proofs.CourseLemmas.{made_good, other_stays, own_moves, torn_good}
+use Rattle.ota_session.specs.DutyLaws.{made_good, other_stays, own_moves, torn_good}
 use Rattle.ota_session.proofs.PartLemmas.{driver_now, part_tells}
 
 module _ {D S : Type 0}

@@ -1,6 +1,5 @@
 -- How the fields of a duty show in a contract.
 use Rattle.std.specs.Prelude.{◌≡◌, ◌↔◌, ◌<◌, ◌^◌, IsTrue, ℕ, Bool, List, drop, length, slice_get, take, Option, Some, None}
-use Rattle.nor_device.specs.declared.step.Step.{Step}
 use Rattle.partition_table.specs.declared.row.Row.{Row}
 use Rattle.partition_table.specs.Layout.{Places}
 use Rattle.image_verify.specs.Bad.{bad}

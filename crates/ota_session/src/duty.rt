@@ -5,9 +5,9 @@ ghost use Rattle.std.specs.Prelude.{◌≡◌, ◌↔◌, ◌<◌, IsOk, IsTrue,
 ghost use Rattle.partition_table.specs.Layout.{Places, layout_of};
 ghost use Rattle.ota_session.specs.Course.{Confirm, Install, IsNext, course_from};
 
-use crate::next::{is_entry_step, is_image_step, is_open, is_sound};
+use crate::next::{is_open, is_sound};
 use crate::part::UpdatePart;
-use crate::task::Task;
+use crate::task::{Task, is_step};
 use boot_run::Aim;
 use bus_hub::Duty;
 use nor_device::Step;
@@ -29,13 +29,13 @@ pub struct UpdateDuty<'a> {
 // Clauses see the driver's steps as those that are made and those to come.
 impl<'a> Model for UpdateDuty<'a> {
     ghost use Rattle.ota_session.specs.Course.{Course};
-    ghost use Rattle.ota_session.specs.DutyView.{IsDuty, course_by};
+    ghost use Rattle.ota_session.specs.DutyView.{IsTask, course_by};
 
     ghost Value = { Course };
 
     ghost view = { λ d. course_by d.driver d.table.now d.layout d.task d.done };
 
-    ghost invariant = { λ d. IsDuty d.driver d.layout d.task };
+    ghost invariant = { λ d. IsTask d.layout d.task };
 }
 
 impl<'a> UpdateDuty<'a> {
@@ -56,6 +56,8 @@ impl<'a> UpdateDuty<'a> {
             Ok(layout) => layout,
             Err(_) => unreachable!(),
         };
+        // No image is longer than a number of 32 bits tells.
+        let _length = aim.length;
         let sound = is_sound(&layout, aim.slot, image);
         UpdateDuty {
             driver,
@@ -92,16 +94,7 @@ impl<'a> UpdateDuty<'a> {
     fn is_next(&self, step: &Step) -> bool
         ensures exact { IsTrue result ↔ IsNext self.now.rest step.now }
     {
-        let otadata = self.layout.otadata;
-        match &self.task {
-            Task::Install { aim, image, sound } => {
-                match self.layout.slots.get(usize::from(aim.slot)) {
-                    Some(row) => is_image_step(otadata, row, aim, image, *sound, self.done, step),
-                    None => false,
-                }
-            }
-            Task::Confirm { rewrite } => is_entry_step(otadata, rewrite, self.done, step),
-        }
+        is_step(&self.task, &self.layout, self.done, step)
     }
 }
 

@@ -1,14 +1,15 @@
 //! Which step of an update has a number, found without the list of all steps.
 
-ghost use Rattle.std.specs.Prelude.{◌≡◌, ◌↔◌, ◌+◌, ◌/◌, ◌<◌, ◌^◌, IsTrue, None, Some, length, slice_get};
+ghost use Rattle.std.specs.Prelude.{◌≡◌, ◌↔◌, ◌+◌, ◌-◌, ◌/◌, ◌<◌, ◌^◌, IsTrue, None, Some, drop, length, slice_get, take};
 ghost use Rattle.nor_device.specs.declared.step.Step.TheVariants.{Erase, Program};
 ghost use Rattle.otadata.specs.Entry.{entry_bytes};
 ghost use Rattle.image_verify.specs.Bad.{bad};
 ghost use Rattle.boot_run.specs.Rewriting.{rewrite};
 ghost use Rattle.flash_steps.specs.Parts.{LiesInOpenPart, LiesInPart};
-ghost use Rattle.flash_steps.specs.Steps.{pages_in, write_steps};
+ghost use Rattle.flash_steps.specs.Steps.{pages_in, room_at, write_steps};
 ghost use Rattle.update_steps.specs.Driver.{image_steps, next_rewrite};
 ghost use Rattle.ota_session.specs.DutyView.{KnowsSound};
+ghost use Rattle.ota_session.specs.Numbers.{IsMarked, page_from};
 
 use boot_run::Aim;
 use flash_steps::row_barred;
@@ -37,7 +38,10 @@ fn is_program(step: &Step, at: u64, bytes: &[u8]) -> bool
 {
     match step {
         Step::Erase { .. } => false,
-        Step::Program { at: found, bytes: page } => u64::from(*found) == at && page.bytes() == bytes,
+        Step::Program {
+            at: found,
+            bytes: page,
+        } => u64::from(*found) == at && page.bytes() == bytes,
     }
 }
 
@@ -85,16 +89,33 @@ fn pages_of(at: u32, bytes: &[u8]) -> u32
     }
 }
 
+/// Where the page with this number begins, of those in which bytes from an address on are, and the
+/// bytes in it.
+#[tactic(auto, using(crate::proofs::NumberLemmas::page_within))]
+fn page_at(at: u32, bytes: &[u8], number: u32) -> (u64, &[u8])
+    requires within { number < pages_in at (length bytes.now) }
+    ensures from { result.0 ≡ page_from at number }
+    ensures bytes { result.1.now
+        ≡ take (room_at (page_from at number)) (drop (page_from at number - at) bytes.now) }
+{
+    let start = at as usize;
+    let from = ((start / PAGE_SIZE + number as usize) * PAGE_SIZE).max(start);
+    let rest = &bytes[from - start..];
+    let room = PAGE_SIZE - from % PAGE_SIZE;
+    if rest.len() <= room {
+        (from as u64, rest)
+    } else {
+        (from as u64, &rest[..room])
+    }
+}
+
 /// Whether a step has this number in the write of bytes from an address on.
 fn is_page_step(at: u32, bytes: &[u8], number: u32, step: &Step) -> bool
     requires within { number < pages_in at (length bytes.now) }
     ensures exact { IsTrue result ↔ (slice_get (write_steps at bytes.now) number ≡ Some step.now) }
 {
-    let page = at as usize / PAGE_SIZE + number as usize;
-    let start = at as usize;
-    let from = (page * PAGE_SIZE).max(start);
-    let to = (page * PAGE_SIZE + PAGE_SIZE).min(start + bytes.len());
-    is_program(step, from as u64, &bytes[from - start..to - start])
+    let (from, page) = page_at(at, bytes, number);
+    is_program(step, from, page)
 }
 
 /// Whether a step has this number in an update by an image, in the partition of its slot.
@@ -115,30 +136,57 @@ pub(crate) fn is_image_step(
 {
     let erases = sectors_of(image);
     if number < erases {
-        return is_erase(step, u64::from(row.offset / SECTOR_SIZE) + u64::from(number));
+        return is_erase(step, (row.offset / SECTOR_SIZE) as u64 + number as u64);
     }
-    if image.first() != Some(&MAGIC) {
+    if !is_marked(image) {
         return false;
     }
+    let later = number - erases;
     let programs = pages_of(row.offset, image);
-    if number - erases < programs {
-        return is_page_step(row.offset, image, number - erases, step);
+    if later < programs {
+        return is_page_step(row.offset, image, later, step);
     }
-    let write = Rewrite {
+    if !sound {
+        return false;
+    }
+    is_entry_step(otadata, &next_rewrite(aim), later - programs, step)
+}
+
+/// Whether the first byte is that of an image.
+fn is_marked(image: &[u8]) -> bool
+    ensures exact { IsTrue result ↔ IsMarked image.now }
+{
+    match image.first() {
+        Some(byte) => *byte == MAGIC,
+        None => false,
+    }
+}
+
+/// The rewrite that announces the new application.
+fn next_rewrite(aim: &Aim) -> Rewrite
+    ensures exact { result ≡ next_rewrite aim.now }
+{
+    Rewrite {
         sector: aim.next.sector,
         entry: aim.next.entry,
-    };
-    sound && is_entry_step(otadata, &write, number - erases - programs, step)
+    }
 }
 
 /// Whether an image shows no fault within its slot; true where there is no such slot.
 pub(crate) fn is_sound(layout: &Layout, slot: u8, image: &[u8]) -> bool
     ensures exact { KnowsSound (slice_get layout.now.slots slot) image.now result }
 {
-    match layout.slots.get(usize::from(slot)) {
+    match row_of(layout, slot) {
         Some(row) => is_whole(image, row.size),
         None => true,
     }
+}
+
+/// The partition of a slot, where there is one.
+pub(crate) fn row_of(layout: &Layout, slot: u8) -> Option<Row>
+    ensures exact { result ≡ slice_get layout.now.slots slot }
+{
+    layout.slots.get(usize::from(slot)).copied()
 }
 
 /// Whether an image shows no fault, where it may have so many bytes.

@@ -12,5 +12,7 @@ pub enum UpdatePart {
         rest: LinkedList<Step>,
     },
     /// The other core: the rows of the table.
-    Other { rows: LinkedList<Row> },
+    Other {
+        rows: LinkedList<Row>,
+    },
 }

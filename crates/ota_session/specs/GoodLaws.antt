@@ -1,5 +1,5 @@
 -- Of a flash at the opening and of what stands of it, all that makes a flash good.
-use Rattle.std.proofs.Common.{◌≡◌, ◌≢◌, ℕ, ◌<◌, List, ◌++◌, length, take, drop, Option, None, Some, IfSome, lit<, refl, sym, subst}
+use Rattle.std.proofs.Common.{◌≡◌, ◌≢◌, ℕ, ◌<◌, List, ◌++◌, length, take, drop, Option, None, IfSome, lit<, refl, sym, subst}
 use Rattle.partition_table.specs.Layout.{IsPlaced, Places}
 use Rattle.partition_table.specs.Rules.{FitsFlash}
 use Rattle.otadata.proofs.ChoiceLemmas.{active-lt}
@@ -16,7 +16,7 @@ use Rattle.update_steps.proofs.SparedLemmas.{beside_boots, beside_some}
 use Rattle.update_steps.proofs.ApartLemmas.{rows_apart}
 use Rattle.update_steps.proofs.TableLemmas.{layout_placed, table_fits}
 use Rattle.update_steps.proofs.VerdictLemmas.{beside_still, beside_verdict}
-use Rattle.ota_session.specs.Course.{Confirm, Confirms, Course, Install, Installs, IsFor, IsGood, IsMadeFor, LeavesBoot, Purpose, steps_for}
+use Rattle.ota_session.specs.Course.{Confirm, Confirms, Course, Install, IsFor, IsGood, IsMadeFor, LeavesBoot, Purpose, steps_for}
 
 -- bytes show no fault exactly where they are a whole image
 pub shown : ShowsNone
