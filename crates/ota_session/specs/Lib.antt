@@ -1,10 +1,7 @@
-<<<<<<< HEAD
 -- In reading order: what an update is for and how far it has come; how a duty shows it; which step has
 -- a number; and the laws of the duty, which its `impl` cites.
-=======
 -- In reading order: what an update is for and how far it has come; how a duty shows it; the moves
 -- and the stages of a session, and the answers of its calls.
->>>>>>> 15f7056ff7f866640714c4e649d391da3de191c5
 pub mod Course
 pub mod DutyView
 pub mod Numbers
