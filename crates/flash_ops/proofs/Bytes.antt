@@ -1,6 +1,6 @@
 -- What was read is what a bus that stands for base and share has there.
 use Rattle.std.proofs.Common.{◌≡◌, ℕ, zero, suc, ◌+◌, ◌-◌, ◌<◌, ◌≤◌, ◌++◌, ◌∙◌, ap, subst, sym, refl, arith, inl, inr, ◌⊎◌, Bool, List, [], ◌∷◌, length, take, drop, Option, Some, None, IfSome, length-take, length-drop, length-append}
-use Rattle.std.specs.Prelude.{slice_index, put_mid}
+use Rattle.std.specs.Prelude.{slice_index}
 use Rattle.std.proofs.lemmas.Bool.{cases_lt}
 use Rattle.std.proofs.lemmas.List.{get_or-take, get_or-drop, get_or-append_right, take_all}
 use Rattle.std.proofs.lemmas.Slice.{take-put_mid}
@@ -42,7 +42,7 @@ module _ {H B : Type 0} (stands : H → B → List Did → List Did → Type 0)
       → AreBytesOf stands bytes base c share (at + length a) b
       → AreBytesOf stands bytes base c share at (a ++ b)
   bytes_then None c share at a b first later = absurd first
-  bytes_then (Some base) c share at a b first later i within =
+  bytes_then (Some base) c share at a b first later = λ i within.
       let long = length-append a b in
       elim (cases_lt i (length a)) [
         | inl low ↦
@@ -59,7 +59,7 @@ module _ {H B : Type 0} (stands : H → B → List Did → List Did → Type 0)
   pub bytes_none : (base : Option B) (c : ℕ) (share : List Did) (at : ℕ)
       → OnBase base (λ _. Unit {0}) → AreBytesOf stands bytes base c share at []
   bytes_none None c share at some = absurd some
-  bytes_none (Some base) c share at some i within = absurd (omega arith)
+  bytes_none (Some base) c share at some = λ i within. absurd (omega arith)
 
 module _ {D S K P : Type 0}
     (bytes : D → Option (List ℕ)) (off : D → Bool) (steps faults : D → ℕ) (setting : D → S)
@@ -83,7 +83,7 @@ module _ {D S K P : Type 0}
       → IfSome base (λ b. IsPartOf StandsBy (λ h. bytes h.dev) b c share at out)
       → AreBytesOf StandsBy (λ h. bytes h.dev) base c share at out
   read_bytes None c share at out some read = absurd some
-  read_bytes (Some base) c share at out some read i within =
+  read_bytes (Some base) c share at out some read = λ i within.
       let told = told_by read.bus base c share read.theirs read.stands_by in
       let is = part_at told.0 at i out (told_part (bytes read.bus.dev) told.0 at (length out) out told.1
       read.part) within in

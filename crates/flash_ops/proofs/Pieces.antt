@@ -1,6 +1,8 @@
 -- Writes, erases and reads in their quiet periods.
-use Rattle.std.proofs.Common.{◌≡◌, ℕ, zero, suc, ◌+◌, ◌-◌, ◌*◌, ◌/◌, ◌%◌, ◌<◌, ◌≤◌, ◌++◌, ◌∙◌, ap, subst, sym, refl, arith, inl, inr, ◌⊎◌, List, [], ◌∷◌, length, take, drop, Option, Some, None, append-nil, append_assoc, length-append, length-take, length-drop}
+use Rattle.std.proofs.Common.{◌≡◌, ℕ, zero, suc, ◌+◌, ◌-◌, ◌*◌, ◌/◌, ◌%◌, ◌<◌, ◌≤◌, ◌++◌, ◌∙◌, ap, subst, sym, refl, arith, inl, inr, ◌⊎◌, Bool, true, false, List, [], ◌∷◌, length, take, drop, Option, Some, None, append-nil, append_assoc, length-append, length-take, length-drop}
+use Rattle.std.specs.Prelude.{◌==◌}
 use Rattle.std.proofs.lemmas.Bool.{cases_lt}
+use Rattle.std.proofs.lemmas.Bool.Decides.{nat_tests}
 use Rattle.std.proofs.lemmas.List.{take-append-drop, take_all, take_at}
 use Rattle.std.proofs.Math.Seq.{drop-append_seam}
 use Rattle.std.proofs.Math.ListN.{drop_of_length-le}
@@ -91,7 +93,7 @@ blind_by_sixteen (suc n) steps few =
 entries_by_sixteen : (n : ℕ) (probe : Option ℕ) (steps : List Step) → length steps ≤ 16 * n
     → entries_for (by_sixteen n probe steps)
     ≡ 2 * length steps + n * entries_for (looks probe)
-entries_by_sixteen zero probe [] few = refl
+entries_by_sixteen zero probe [] few = grind arith
 entries_by_sixteen zero probe (x ∷ steps) few = absurd (omega arith)
 entries_by_sixteen (suc n) probe steps few =
     let behind = by_sixteen n probe (drop 16 steps) in
@@ -108,7 +110,7 @@ entries_by_sixteen (suc n) probe steps few =
 
 bytes_by_sixteen : (n : ℕ) (probe : Option ℕ) (steps : List Step)
     → bytes_for (by_sixteen n probe steps) ≡ n * bytes_for (looks probe)
-bytes_by_sixteen zero probe steps = refl
+bytes_by_sixteen zero probe steps = grind arith
 bytes_by_sixteen (suc n) probe steps =
     let behind = by_sixteen n probe (drop 16 steps) in
     let rest = bytes_by_sixteen n probe (drop 16 steps) in
@@ -130,16 +132,20 @@ unfolding write_moves
 write_nothing probe at =
     ap (λ (s : List Step). by_sixteen (periods_of s) probe s) (no_steps at)
 
+pages_are : (at len : ℕ) → 1 ≤ len → pages_in at len ≡ (at % 256 + len + 255) / 256
+unfolding pages_in
+pages_are at len some = by (len == 0) refl
+  where
+    by : (none : Bool) → (len == 0) ≡ none → pages_in at len ≡ (at % 256 + len + 255) / 256
+    by true is = absurd (grind (arith, nat_tests))
+    by false is = rw is refl
+
 few_pages : (at len : ℕ) → 1 ≤ len → len ≤ 4096 - at % 256
     → (1 ≤ pages_in at len) × (pages_in at len ≤ 16)
-unfolding pages_in
-few_pages at zero some few = absurd (omega arith)
-few_pages at (suc len) some few = (omega arith, omega arith)
+few_pages at len some few = let n = pages_are at len some in (omega arith, omega arith)
 
 all_pages : (at len : ℕ) → len ≡ 4096 - at % 256 → pages_in at len ≡ 16
-unfolding pages_in
-all_pages at zero is = absurd (omega arith)
-all_pages at (suc len) is = omega arith
+all_pages at len is = let n = pages_are at len (omega arith) in omega arith
 
 -- bytes of one quiet period
 pub write_last : (probe : Option ℕ) (at : ℕ) (bytes : List ℕ) → 1 ≤ length bytes
@@ -188,6 +194,16 @@ write_period_first probe at bytes some =
           ∙ write_nothing probe (at + length (take room bytes))))
     ]
 
+whole_pages : (len at : ℕ) → at % 256 ≡ 0 → len % 4096 ≡ 0
+    → pages_in at len ≡ 16 * (len / 4096)
+whole_pages len at begins whole =
+    elim (cases_lt 0 len) [
+      | inl some ↦ let n = pages_are at len some in omega arith
+      | inr none ↦
+          let no : len ≡ 0 = omega arith in
+          subst (λ (m : ℕ). pages_in at m ≡ 16 * (m / 4096)) (sym no) (page_none at)
+    ]
+
 -- whole quiet periods in front of others are one write with them
 pub write_pieces : (probe : Option ℕ) (at : ℕ) (first rest : List ℕ) → at % 256 ≡ 0
     → length first % 4096 ≡ 0
@@ -199,12 +215,7 @@ write_pieces probe at first rest begins whole =
     (pieces_of_write at first rest (omega arith))
     ∙ sixteens (length first / 4096) probe (write_steps at first)
     (write_steps (at + length first) rest)
-    (count_of_write at first ∙ by (length first) whole)
-  where
-    by : (len : ℕ) → len % 4096 ≡ 0 → pages_in at len ≡ 16 * (len / 4096)
-    unfolding pages_in
-    by zero is = refl
-    by (suc len) is = omega arith
+    (count_of_write at first ∙ whole_pages (length first) at begins whole)
 
 -- its steps, with and without a look
 pub steps_of_write : (probe : Option ℕ) (at : ℕ) (bytes : List ℕ)
@@ -262,7 +273,7 @@ one_by_one-append probe (step ∷ a) b = ap (λ (m : List Move). Make step ∷ m
 
 entries_one_by_one : (probe : Option ℕ) (steps : List Step)
     → entries_for (one_by_one probe steps) ≡ length steps * (2 + entries_for (looks probe))
-entries_one_by_one probe [] = refl
+entries_one_by_one probe [] = grind arith
 entries_one_by_one probe (step ∷ steps) =
     let rest = entries_one_by_one probe steps in
     let e = entries_for-append (looks probe) (one_by_one probe steps) in
@@ -273,7 +284,7 @@ entries_one_by_one probe (step ∷ steps) =
 
 bytes_one_by_one : (probe : Option ℕ) (steps : List Step)
     → bytes_for (one_by_one probe steps) ≡ length steps * bytes_for (looks probe)
-bytes_one_by_one probe [] = refl
+bytes_one_by_one probe [] = grind arith
 bytes_one_by_one probe (step ∷ steps) =
     let rest = bytes_one_by_one probe steps in
     let e = bytes_for-append (looks probe) (one_by_one probe steps) in
@@ -320,7 +331,9 @@ pub all_sectors : (probe : Option ℕ) (at len : ℕ)
     → erase_moves probe at len ≡ sectors_left probe (at / 4096) (len / 4096) 0
 unfolding erase_moves sectors_left erase_steps
 all_sectors probe at len =
-    ap (λ (n : ℕ). one_by_one probe (erases (len / 4096) n)) (omega arith)
+    let n : len / 4096 ≡ len / 4096 - 0 = omega arith in
+    let m : at / 4096 ≡ at / 4096 + 0 = omega arith in
+    λ i. one_by_one probe (erases (n i) (m i))
 
 pub next_sector : (probe : Option ℕ) (first count i : ℕ) → i < count
     → sectors_left probe first count i
@@ -328,14 +341,16 @@ pub next_sector : (probe : Option ℕ) (first count i : ℕ) → i < count
 unfolding sectors_left erases
 next_sector probe first count i within =
     let more : count - i ≡ suc (count - (i + 1)) = omega arith in
+    let place : first + i + 1 ≡ first + (i + 1) = omega arith in
     ap (λ (n : ℕ). one_by_one probe (erases n (first + i))) more
     ∙ ap (λ (n : ℕ). Make (Erase (first + i)) ∷ (looks probe
-    ++ one_by_one probe (erases (count - (i + 1)) n))) (omega arith)
+    ++ one_by_one probe (erases (count - (i + 1)) n))) place
 
 pub no_sector : (probe : Option ℕ) (first count : ℕ) → sectors_left probe first count count ≡ []
 unfolding sectors_left erases
 no_sector probe first count =
-    ap (λ (n : ℕ). one_by_one probe (erases n (first + count))) (omega arith)
+    let gone : count - count ≡ 0 = omega arith in
+    ap (λ (n : ℕ). one_by_one probe (erases n (first + count))) gone
 
 -- ---- reads
 

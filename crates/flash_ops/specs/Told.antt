@@ -34,6 +34,12 @@ barred_by parts.Encrypted = ops.Encrypted
 barred_by parts.Unaligned = ops.Unaligned
 barred_by parts.Range = ops.Range
 
+-- an answer where no rule was against it
+abbrev pub unbarred : Result (Unit {0}) StepNo → Result (Unit {0}) OpNo
+unbarred (Ok _) = Ok tt
+unbarred (Err Device) = Err ops.Device
+unbarred (Err Cut) = Err ops.Cut
+
 -- a write or an erase of a partition that nothing bars: the steps were made, or a first part of them
 -- by the answer
 abbrev pub HasChanged : {B : Type 0} → ℕ → List Step → Result (Unit {0}) OpNo → Own B Did

@@ -1,12 +1,11 @@
 //! Writes and erases of a partition.
 
-ghost use Rattle.std.specs.Prelude.{◌≡◌, ◌+◌, ◌<◌, ◌^◌, length, None, IfOk, IfErr, Err};
-ghost use Rattle.cache_gate.specs.Own.{IsInside, Keeps};
+ghost use Rattle.std.specs.Prelude.{◌≡◌, ◌+◌, length, IfOk, IfErr, Err};
+ghost use Rattle.cache_gate.specs.Own.{Keeps};
 ghost use Rattle.flash_steps.specs.Parts.{part_erase_steps, part_write_steps};
 ghost use Rattle.flash_steps.specs.Rules.{erase_checked, write_checked};
-ghost use Rattle.flash_ops.specs.Moves.{makes};
-ghost use Rattle.flash_ops.specs.Asked.{CanRun, CanChange};
-ghost use Rattle.flash_ops.specs.Told.{HasChanged, barred_by};
+ghost use Rattle.flash_ops.specs.Asked.{CanChange};
+ghost use Rattle.flash_ops.specs.Told.{HasChanged, barred_by, unbarred};
 
 use crate::erasing::erase;
 use crate::pace::{Beat, NoPace};
@@ -87,7 +86,9 @@ pub fn part_erase<'w, R: Wait, D: Crash, K: Duty>(
 }
 
 /// The answer where no rule was against it.
-fn changed(made: Result<(), StepNo>) -> Result<(), OpNo> {
+fn changed(made: Result<(), StepNo>) -> Result<(), OpNo>
+    ensures exact { result ≡ unbarred made }
+{
     match made {
         Ok(()) => Ok(()),
         Err(StepNo::Device) => Err(OpNo::Device),

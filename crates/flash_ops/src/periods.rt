@@ -1,6 +1,6 @@
 //! Around a quiet period: the pace, the count, and the look behind it.
 
-ghost use Rattle.std.specs.Prelude.{◌≡◌, ◌+◌, ◌≤◌};
+ghost use Rattle.std.specs.Prelude.{◌≡◌, Some, OnOk};
 ghost use Rattle.bus_hub.specs.declared.did.Base.{Base};
 ghost use Rattle.bus_hub.specs.declared.did.Did.{Did};
 ghost use Rattle.flash_ops.specs.Moves.{HasRun, looks};

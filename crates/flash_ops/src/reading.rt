@@ -1,6 +1,6 @@
 //! Reads, at most 4096 bytes in a quiet period.
 
-ghost use Rattle.std.specs.Prelude.{◌≡◌, ◌+◌, ◌≤◌, ◌<◌, ◌^◌, [], ◌∷◌, length, OnOk};
+ghost use Rattle.std.specs.Prelude.{◌≡◌, ℕ, ◌+◌, ◌<◌, ◌^◌, [], ◌∷◌, length, OnOk};
 ghost use Rattle.cache_gate.specs.Own.{IsInside};
 ghost use Rattle.flash_ops.specs.Moves.{Ask, HasRun, read_moves};
 ghost use Rattle.flash_ops.specs.Shown.{AreBytesOf};
