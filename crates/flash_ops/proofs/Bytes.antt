@@ -1,5 +1,5 @@
 -- What was read is what a bus that stands for base and share has there.
-use Rattle.std.proofs.Common.{◌≡◌, ℕ, zero, suc, ◌+◌, ◌-◌, ◌<◌, ◌≤◌, ◌++◌, ◌∙◌, ap, subst, sym, refl, arith, inl, inr, ◌⊎◌, Bool, List, [], ◌∷◌, length, take, drop, Option, Some, None, IfSome, length-take, length-drop, length-append}
+use Rattle.std.proofs.Common.{◌≡◌, ℕ, zero, suc, ◌+◌, ◌-◌, ◌<◌, ◌≤◌, ◌++◌, ◌∙◌, ap, subst, sym, refl, arith, inl, inr, ◌⊎◌, Bool, List, [], ◌∷◌, length, take, drop, Option, Some, None, IfSome, Result, Ok, Err, OnOk, length-take, length-drop, length-append}
 use Rattle.std.specs.Prelude.{slice_index}
 use Rattle.std.proofs.lemmas.Bool.{cases_lt}
 use Rattle.std.proofs.lemmas.List.{get_or-take, get_or-drop, get_or-append_right, take_all}
@@ -56,10 +56,10 @@ module _ {H B : Type 0} (stands : H → B → List Did → List Did → Type 0)
             (later k (omega arith))
       ]
 
-  pub bytes_none : (base : Option B) (c : ℕ) (share : List Did) (at : ℕ)
-      → OnBase base (λ _. Unit {0}) → AreBytesOf stands bytes base c share at []
-  bytes_none None c share at some = absurd some
-  bytes_none (Some base) c share at some = λ i within. absurd (omega arith)
+  pub bytes_none : (base : Option B) (c : ℕ) (share : List Did) (at : ℕ) (holds : B → Type 0)
+      → OnBase base holds → AreBytesOf stands bytes base c share at []
+  bytes_none None c share at holds some = absurd some
+  bytes_none (Some base) c share at holds some = λ i within. absurd (omega arith)
 
 module _ {D S K P : Type 0}
     (bytes : D → Option (List ℕ)) (off : D → Bool) (steps faults : D → ℕ) (setting : D → S)
@@ -67,7 +67,7 @@ module _ {D S K P : Type 0}
     (may_refuse : S → ℕ → NorFault → Type 0) (must_refuse : S → ℕ → Type 0)
     (part : K → ℕ → P) (grants : P → Step → Type 0) (after : K → ℕ → Step → K)
     (good : List ℕ → K → List ℕ → Type 0) where
-  abbrev StandsBy : Hub D K → Base S K → List Did → List Did → Type 0
+  abbrev pub StandsBy : Hub D K → Base S K → List Did → List Did → Type 0
   StandsBy = Stands bytes off steps faults setting may_end may_tear may_refuse must_refuse
       part grants after good
 
@@ -79,11 +79,11 @@ module _ {D S K P : Type 0}
 
   -- what a quiet core reads
   pub read_bytes : (base : Option (Base S K)) (c : ℕ) (share : List Did) (at : ℕ) (out : List ℕ)
-      → OnBase base (λ _. Unit {0})
+      (n : ℕ) → IsInside base n
       → IfSome base (λ b. IsPartOf StandsBy (λ h. bytes h.dev) b c share at out)
       → AreBytesOf StandsBy (λ h. bytes h.dev) base c share at out
-  read_bytes None c share at out some read = absurd some
-  read_bytes (Some base) c share at out some read = λ i within.
+  read_bytes None c share at out n some read = absurd some
+  read_bytes (Some base) c share at out n some read = λ i within.
       let told = told_by read.bus base c share read.theirs read.stands_by in
       let is = part_at told.0 at i out (told_part (bytes read.bus.dev) told.0 at (length out) out told.1
       read.part) within in
@@ -96,3 +96,22 @@ module _ {D S K P : Type 0}
         inside = is.0;
         is = is.1;
       }
+
+  -- the same of a core that became quiet before
+  pub read_on : (r : Result (Unit {0}) NorFault) (o a : Own (Base S K) Did) (at n : ℕ)
+      (out : List ℕ) → IsInside o.base n → Keeps o a
+      → OnOk r (IfSome a.base (λ b. IsPartOf StandsBy (λ h. bytes h.dev) b a.core a.share at out))
+      → OnOk r (AreBytesOf StandsBy (λ h. bytes h.dev) o.base o.core o.share at out)
+  read_on (Ok u) o a at n out inside kept read =
+      read_bytes o.base o.core o.share at out n inside
+      (subst (λ (z : Own (Base S K) Did). IfSome z.base
+      (λ b. IsPartOf StandsBy (λ h. bytes h.dev) b z.core z.share at out)) kept.is read)
+  read_on (Err why) o a at n out inside kept read = tt
+
+  -- bytes of a later look of the same core
+  pub bytes_kept : (o a : Own (Base S K) Did) (at : ℕ) (out : List ℕ) → Keeps o a
+      → AreBytesOf StandsBy (λ h. bytes h.dev) a.base a.core a.share at out
+      → AreBytesOf StandsBy (λ h. bytes h.dev) o.base o.core o.share at out
+  bytes_kept o a at out kept are =
+      subst (λ (z : Own (Base S K) Did).
+      AreBytesOf StandsBy (λ h. bytes h.dev) z.base z.core z.share at out) kept.is are

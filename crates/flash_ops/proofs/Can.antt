@@ -1,5 +1,5 @@
 -- What a core can still do behind a first part of the moves.
-use Rattle.std.proofs.Common.{◌≡◌, ℕ, ◌+◌, ◌*◌, ◌≤◌, ◌++◌, ◌∙◌, ap, subst, sym, refl, arith, List, [], ◌∷◌, length, Option, Some, None, Result, Ok, Err, append-nil}
+use Rattle.std.proofs.Common.{◌≡◌, ℕ, ◌+◌, ◌*◌, ◌≤◌, ◌++◌, ◌∙◌, ap, subst, sym, refl, arith, List, [], ◌∷◌, length, Option, Some, None, Result, Ok, Err, OnOk, append-nil}
 use Rattle.core_state.specs.declared.registers.Regs.{Regs}
 use Rattle.nor_device.specs.declared.step.Step.{Step}
 use Rattle.nor_device.specs.declared.nor.NorFault.{NorFault}
@@ -8,11 +8,11 @@ use Rattle.bus_hub.specs.declared.did.Did.{Did}
 use Rattle.bus_hub.specs.Hub.{needs, byte_needs}
 use Rattle.bus_hub.specs.Shares.{made, moved_by}
 use Rattle.bus_hub.proofs.Parts.{moved_by-append}
-use Rattle.cache_gate.specs.Own.{Own, Keeps, HasRoom, HasRoomIn, OnBase, did, saw}
+use Rattle.cache_gate.specs.Own.{Own, Keeps, HasRoom, HasRoomIn, OnBase, IsInside, did, saw}
 use Rattle.cache_gate.proofs.Rooms.{room_left}
 use Rattle.flash_ops.specs.Moves.{Move, Make, Look, Ask, Follows, HasRun, makes, looks, steps_of, entries_for, bytes_for}
 use Rattle.flash_ops.specs.Asked.{GrantsAll, MayMakeAll, HasRoomFor, CanLook, CanRun}
-use Rattle.flash_ops.proofs.Runs.{steps_of-append, entries_for-append, bytes_for-append, made_more, needs_follows, byte_needs_follows}
+use Rattle.flash_ops.proofs.Runs.{base_same, steps_of-append, entries_for-append, bytes_for-append, made_more, needs_follows, byte_needs_follows}
 
 module _ {P : Type 0} (grants : P → Step → Type 0) (moved : P → Step → P) where
   pub grants_first : (p : P) (a b : List Step) → GrantsAll grants moved p (a ++ b)
@@ -112,3 +112,22 @@ module _ {S K P : Type 0} (part : K → ℕ → P) (grants : P → Step → Type
     pub can_blind : (ms : List Move) (probe : Option ℕ) (o : Own (Base S K) Did)
         → CanRun part grants moved ms probe o → CanRun part grants moved ms None o
     can_blind ms probe o can = record { may = can.may; room = can.room; look = tt }
+
+    -- room for the look behind a quiet period
+    pub room_behind : (k : ℕ) (ms : List Move) (probe looked : Option ℕ)
+        (made : Result (Unit {0}) NorFault) (o a b c : Own (Base S K) Did) → looked ≡ probe
+        → CanRun part grants moved (ms ++ looks probe) probe o → Keeps o a → HasRun k ms made a b
+        → Keeps b c → OnOk made (HasRoomFor c.base c.core c.share (looks looked))
+    room_behind k ms probe looked (Ok u) o a b c same can x run y =
+        subst (λ (p : Option ℕ). HasRoomFor c.base c.core c.share (looks p)) (sym same)
+        (can_kept (looks probe) probe b c y
+        (can_then k ms (looks probe) probe a b
+        (can_kept (ms ++ looks probe) probe o a x can) run)).room
+    room_behind k ms probe looked (Err why) o a b c same can x run y = tt
+
+-- the flash is as long as before
+pub inside_run : {S K : Type 0} (k : ℕ) (ms : List Move) (r : Result (Unit {0}) NorFault)
+    (o p : Own (Base S K) Did) (n : ℕ) → HasRun k ms r o p → IsInside o.base n
+    → IsInside p.base n
+inside_run {S} {K} k ms r o p n run inside =
+    subst (λ (z : Option (Base S K)). IsInside z n) (sym (base_same k ms r o p run)) inside

@@ -194,6 +194,78 @@ write_period_first probe at bytes some =
           ∙ write_nothing probe (at + length (take room bytes))))
     ]
 
+pub periods_first : (at : ℕ) (bytes : List ℕ) → 1 ≤ length bytes
+    → periods_of (write_steps at bytes)
+    ≡ suc (periods_of (write_steps (at + length (take (4096 - at % 256) bytes))
+    (drop (4096 - at % 256) bytes)))
+periods_first at bytes some =
+    let room = 4096 - at % 256 in
+    let first = take room bytes in
+    let rest = drop room bytes in
+    elim (cases_lt room (length bytes)) [
+      | inl more ↦
+          let size : length first ≡ room = let e = length-take room bytes in omega arith in
+          let cut : write_steps at bytes
+          ≡ write_steps at first ++ write_steps (at + length first) rest =
+          ap (λ (b : List ℕ). write_steps at b) (sym (take-append-drop room bytes))
+          ∙ pieces_of_write at first rest (omega arith) in
+          let sixteen : length (write_steps at first) ≡ 16 =
+          count_of_write at first ∙ all_pages at (length first) size in
+          let long = length-append (write_steps at first) (write_steps (at + length first) rest) in
+          let all : length (write_steps at bytes)
+          ≡ length (write_steps at first ++ write_steps (at + length first) rest) = ap length cut in
+          omega arith
+      | inr few ↦
+          let n = few_pages at (length bytes) some few in
+          let c = count_of_write at bytes in
+          let none : rest ≡ [] = drop_of_length-le bytes few in
+          let gone : length (write_steps (at + length first) rest) ≡ 0 =
+          ap (λ (b : List ℕ). length (write_steps (at + length first) b)) none
+          ∙ ap length (no_steps (at + length first)) in
+          omega arith
+    ]
+
+-- the same, of pieces that were cut
+pub write_period_cut : (probe : Option ℕ) (at : ℕ) (bytes first rest : List ℕ) → 1 ≤ length bytes
+    → first ≡ take (4096 - at % 256) bytes → rest ≡ drop (4096 - at % 256) bytes
+    → write_moves probe at bytes
+    ≡ (makes (write_steps at first) ++ looks probe) ++ write_moves probe (at + length first) rest
+write_period_cut probe at bytes first rest some front back =
+    write_period_first probe at bytes some
+    ∙ (λ i. (makes (write_steps at (sym front i)) ++ looks probe)
+    ++ write_moves probe (at + length (sym front i)) (sym back i))
+
+pub periods_cut : (at : ℕ) (bytes first rest : List ℕ) → 1 ≤ length bytes
+    → first ≡ take (4096 - at % 256) bytes → rest ≡ drop (4096 - at % 256) bytes
+    → periods_of (write_steps at bytes)
+    ≡ suc (periods_of (write_steps (at + length first) rest))
+periods_cut at bytes first rest some front back =
+    periods_first at bytes some
+    ∙ (λ i. suc (periods_of (write_steps (at + length (sym front i)) (sym back i))))
+
+pub length_cut : (n : ℕ) (bytes first rest : List ℕ) → first ≡ take n bytes
+    → rest ≡ drop n bytes → length first + length rest ≡ length bytes
+length_cut n bytes first rest front back =
+    let a : length first ≡ length (take n bytes) = ap length front in
+    let b : length rest ≡ length (drop n bytes) = ap length back in
+    let e = length-take n bytes in
+    let f = length-drop n bytes in
+    omega arith
+
+pub write_done : (probe : Option ℕ) (at : ℕ) (bytes : List ℕ) → length bytes ≡ 0
+    → write_moves probe at bytes ≡ []
+write_done probe at [] none = write_nothing probe at
+write_done probe at (byte ∷ bytes) none = absurd (omega arith)
+
+pub periods_done : (at : ℕ) (bytes : List ℕ) → length bytes ≡ 0
+    → periods_of (write_steps at bytes) ≡ 0
+periods_done at [] none = ap periods_of (no_steps at)
+periods_done at (byte ∷ bytes) none = absurd (omega arith)
+
+no_pages : (at : ℕ) → pages_in at 0 ≡ 0
+unfolding pages_in
+no_pages at = refl
+
 whole_pages : (len at : ℕ) → at % 256 ≡ 0 → len % 4096 ≡ 0
     → pages_in at len ≡ 16 * (len / 4096)
 whole_pages len at begins whole =
@@ -201,7 +273,7 @@ whole_pages len at begins whole =
       | inl some ↦ let n = pages_are at len some in omega arith
       | inr none ↦
           let no : len ≡ 0 = omega arith in
-          subst (λ (m : ℕ). pages_in at m ≡ 16 * (m / 4096)) (sym no) (page_none at)
+          subst (λ (m : ℕ). pages_in at m ≡ 16 * (m / 4096)) (sym no) (no_pages at)
     ]
 
 -- whole quiet periods in front of others are one write with them

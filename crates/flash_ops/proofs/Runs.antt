@@ -17,7 +17,8 @@ use Rattle.bus_hub.specs.Told.{asked}
 use Rattle.cache_gate.specs.Works.{Works, events_in}
 use Rattle.cache_gate.specs.Own.{Own, Keeps, Adds, HasFetched, HasStepped, did, saw}
 use Rattle.cache_gate.proofs.Walks.{works_then, works_none, events_in-append}
-use Rattle.flash_ops.specs.Moves.{Move, Make, Look, Ask, Follows, Stops, Ran, HasRun, makes, looks, steps_of, entries_for, bytes_for}
+use Rattle.flash_ops.specs.Moves.{Move, Make, Look, Ask, Follows, Stops, Ran, HasRun, makes, looks, asks, steps_of, entries_for, bytes_for}
+use Rattle.flash_ops.specs.Told.{LooksBehind}
 
 -- ---- lists of moves
 
@@ -333,3 +334,33 @@ module _ {B : Type 0} (k : ℕ) (whole : List Move) where
   left_none left o c is l =
       l.goes (Ok tt) c (subst (λ (m : List Move). HasRun k m (Ok tt) c c) (sym is)
       (run_none k c c (keeps_same c)))
+
+module _ {B : Type 0} where
+  -- moves in a quiet period, and the look behind it
+  pub period_ran : (k : ℕ) (ms : List Move) (probe looked : Option ℕ)
+      (made r : Result (Unit {0}) NorFault) (o a b c d : Own B Did) → looked ≡ probe → Keeps o a
+      → HasRun k ms made a b → Keeps b c → LooksBehind k looked made r c d
+      → HasRun k (ms ++ looks probe) r o d
+  period_ran k ms probe looked (Ok u) r o a b c d same x run y look =
+      subst (λ (p : Option ℕ). HasRun k (ms ++ looks p) r o d) same
+      (run_then k ms (looks looked) r o c d
+      (run_after k ms (Ok tt) o a c x (run_before k ms (Ok tt) a b c run y)) look)
+  period_ran k ms probe looked (Err why) r o a b c d same x run y look =
+      subst (λ (z : Result (Unit {0}) NorFault). HasRun k (ms ++ looks probe) z o d) (sym look.0)
+      (subst (λ (z : Own B Did). HasRun k (ms ++ looks probe) (Err why) o z) (sym look.1)
+      (run_stops k ms (looks probe) why o c
+      (run_after k ms (Err why) o a c x (run_before k ms (Err why) a b c run y))))
+
+  -- reads that were answered left nothing
+  pub asks_kept : (k n : ℕ) (o p : Own B Did) → HasRun k (asks n) (Ok tt) o p → Keeps o p
+  asks_kept k n o p run =
+      keeps_of o p (subst (λ (l : List Did). Adds l o p) (none n run.items run.ran) run.adds)
+    where
+      none : (n : ℕ) (items : List Did) → Follows k o.regs (asks n) items → items ≡ []
+      none zero items f = f
+      none (suc n) items f = none n items f
+
+  -- the base stays
+  pub base_same : (k : ℕ) (ms : List Move) (r : Result (Unit {0}) NorFault) (o p : Own B Did)
+      → HasRun k ms r o p → p.base ≡ o.base
+  base_same k ms r o p run = ap (λ (z : Own B Did). z.base) run.adds.is

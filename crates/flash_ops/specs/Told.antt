@@ -1,5 +1,5 @@
 -- The answers of the calls.
-use Rattle.std.specs.Prelude.{◌≡◌, ℕ, ◌+◌, ◌-◌, ◌^◌, ◌≤◌, min, List, length, Option, Result, Ok, Err}
+use Rattle.std.specs.Prelude.{◌≡◌, ℕ, zero, suc, ◌+◌, ◌-◌, ◌^◌, ◌≤◌, min, List, length, Option, Result, Ok, Err}
 use Rattle.nor_device.specs.declared.step.Step.{Step}
 use Rattle.nor_device.specs.declared.nor.NorFault.{NorFault}
 use Rattle.nor_device.specs.declared.nor.NorFault.TheVariants.{Failed, Off}
@@ -54,6 +54,18 @@ HasChanged k steps (Err ops.Range) o o' = ⊥
 HasChanged k steps (Err ops.Device) o o' = HasRun k (makes steps) (Err Failed) o o'
 HasChanged k steps (Err ops.Cut) o o' = HasRun k (makes steps) (Err Off) o o'
 
--- a count that stands still at the end of its type, after so many more
+-- a count after so many more, which stands still at the end of its type
 abbrev pub counted : ℕ → ℕ → ℕ
-counted ops more = min (ops + more) (2 ^ 32 - 1)
+counted count zero = count
+counted count (suc n) = min (counted count n + 1) (2 ^ 32 - 1)
+
+-- a count that rose by at most so many
+pub record IsCountedUpTo (most before now : ℕ) : Type 0 where
+  pub many : ℕ
+  pub within : many ≤ most
+  pub is : now ≡ counted before many
+
+-- the quiet periods that were counted, by the answer: so many, or at most so many
+abbrev pub CountsPeriods : ℕ → Result (Unit {0}) StepNo → ℕ → ℕ → Type 0
+CountsPeriods n (Ok _) before now = now ≡ counted before n
+CountsPeriods n (Err why) before now = IsCountedUpTo n before now

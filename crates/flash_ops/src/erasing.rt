@@ -5,7 +5,7 @@ ghost use Rattle.nor_device.specs.declared.step.Step.TheVariants.{Erase};
 ghost use Rattle.cache_gate.specs.Own.{IsInside};
 ghost use Rattle.flash_ops.specs.Moves.{HasRun, Make, erase_moves, looks};
 ghost use Rattle.flash_ops.specs.Asked.{CanRun};
-ghost use Rattle.flash_ops.specs.Told.{counted, fault_of};
+ghost use Rattle.flash_ops.specs.Told.{CountsPeriods, counted, fault_of};
 
 use crate::pace::{Beat, Pace};
 use crate::periods::{answer, begin, end, look_behind};
@@ -40,8 +40,7 @@ pub fn erase<'w, R: Wait, D: Crash, K: Duty, P: Pace>(
     ensures ran { HasRun k (erase_moves beat.old.probe at len) (fault_of result.1) core.entry result.0 }
     ensures probe { beat.new.probe ≡ beat.old.probe }
     ensures pace { beat.new.pace ≡ beat.old.pace }
-    ensures ops { OnOk result.1 (beat.new.ops ≡ counted beat.old.ops (len / 4096)) }
-    ensures most { beat.new.ops ≤ counted beat.old.ops (len / 4096) }
+    ensures ops { CountsPeriods (len / 4096) result.1 beat.old.ops beat.new.ops }
 {
     let mut core = core;
     let first = at / SECTOR;

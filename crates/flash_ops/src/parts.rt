@@ -1,8 +1,9 @@
 //! Writes and erases of a partition.
 
-ghost use Rattle.std.specs.Prelude.{◌≡◌, ◌+◌, length, IfOk, IfErr, Err};
+ghost use Rattle.std.specs.Prelude.{◌≡◌, ◌+◌, ◌%◌, length, IfOk, IfErr, Err};
 ghost use Rattle.cache_gate.specs.Own.{Keeps};
 ghost use Rattle.flash_steps.specs.Parts.{part_erase_steps, part_write_steps};
+ghost use Rattle.flash_steps.specs.Steps.{erase_steps, write_steps};
 ghost use Rattle.flash_steps.specs.Rules.{erase_checked, write_checked};
 ghost use Rattle.flash_ops.specs.Asked.{CanChange};
 ghost use Rattle.flash_ops.specs.Told.{HasChanged, barred_by, unbarred};
@@ -38,15 +39,7 @@ pub fn part_write<'w, R: Wait, D: Crash, K: Duty>(
         core.entry result.0) }
 {
     match check_write(table, label, offset, bytes.len()) {
-        Ok(row) => {
-            let mut beat = Beat {
-                pace: &NoPace,
-                probe: None,
-                ops: 0,
-            };
-            let (core, made) = write(rt, core, &mut beat, k, row.offset + offset, bytes);
-            (core, changed(made))
-        }
+        Ok(row) => write_at(rt, core, k, row.offset + offset, bytes),
         Err(why) => (core, Err(barred(why))),
     }
 }
@@ -65,6 +58,8 @@ pub fn part_erase<'w, R: Wait, D: Crash, K: Duty>(
     requires can { IfOk (erase_checked table.now label.now offset len)
         (λ row. CanChange K.part K.grants K.moved (row.offset + offset) len
         (part_erase_steps table.now label.now offset len) core) }
+    requires sector { IfOk (erase_checked table.now label.now offset len)
+        (λ row. row.offset % 4096 ≡ 0) }
     ensures barred { IfErr (erase_checked table.now label.now offset len)
         (λ why. (result.1 ≡ Err (barred_by why)) × Keeps core.entry result.0) }
     ensures ran { IfOk (erase_checked table.now label.now offset len)
@@ -72,17 +67,50 @@ pub fn part_erase<'w, R: Wait, D: Crash, K: Duty>(
         core.entry result.0) }
 {
     match check_erase(table, label, offset, len) {
-        Ok(row) => {
-            let mut beat = Beat {
-                pace: &NoPace,
-                probe: None,
-                ops: 0,
-            };
-            let (core, made) = erase(rt, core, &mut beat, k, row.offset + offset, len);
-            (core, changed(made))
-        }
+        Ok(row) => erase_at(rt, core, k, row.offset + offset, len),
         Err(why) => (core, Err(barred(why))),
     }
+}
+
+/// Writes the bytes from the address on, with no pace and no look.
+fn write_at<'w, R: Wait, D: Crash, K: Duty>(
+    rt: &R,
+    core: Core<'w, D, K>,
+    k: u32,
+    at: u32,
+    bytes: &[u8],
+) -> (Core<'w, D, K>, Result<(), OpNo>)
+    requires { CanChange K.part K.grants K.moved at (length bytes.now) (write_steps at bytes.now) core }
+    ensures { HasChanged k (write_steps at bytes.now) result.1 core.entry result.0 }
+{
+    let mut beat = Beat {
+        pace: &NoPace,
+        probe: None,
+        ops: 0,
+    };
+    let (core, made) = write(rt, core, &mut beat, k, at, bytes);
+    (core, changed(made))
+}
+
+/// Erases so many bytes from the address on, with no pace and no look.
+fn erase_at<'w, R: Wait, D: Crash, K: Duty>(
+    rt: &R,
+    core: Core<'w, D, K>,
+    k: u32,
+    at: u32,
+    len: u32,
+) -> (Core<'w, D, K>, Result<(), OpNo>)
+    requires can { CanChange K.part K.grants K.moved at len (erase_steps at len) core }
+    requires aligned { (at % 4096 ≡ 0) × (len % 4096 ≡ 0) }
+    ensures { HasChanged k (erase_steps at len) result.1 core.entry result.0 }
+{
+    let mut beat = Beat {
+        pace: &NoPace,
+        probe: None,
+        ops: 0,
+    };
+    let (core, made) = erase(rt, core, &mut beat, k, at, len);
+    (core, changed(made))
 }
 
 /// The answer where no rule was against it.

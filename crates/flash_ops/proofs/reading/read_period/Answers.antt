@@ -1,14 +1,22 @@
-use Rattle.std.proofs.Common.{rules, ◌≡◌, ℕ, ◌+◌, ◌<◌, ◌^◌, [], ◌∷◌, length, OnOk, ◌-◌, ◌*◌, ◌≤◌, ◌/◌, ◌%◌, Bool, true, false, nat_eq, nat_lt, List, ◌++◌, slice_index_or, slice_set, bit_and, bit_or, Fits, w8, w32, w64, Bor, MutBor}
-use Rattle.cache_gate.specs.Own.{IsInside}
-use Rattle.flash_ops.specs.Moves.{Ask, HasRun, read_moves}
-use Rattle.flash_ops.specs.Shown.{AreBytesOf}
-use Rattle.flash_ops.specs.Told.{fault_of}
+use Rattle.std.proofs.Common.{◌+◌, [], ◌∷◌, length}
+use Rattle.flash_ops.specs.Moves.{Ask}
+use Rattle.flash_ops.proofs.Runs.{run_after, run_ask, run_before}
+use Rattle.flash_ops.proofs.Bytes.{read_on}
 use Rattle.flash_ops.proofs.reading.read_period.Goals as goal
 
--- src/reading.rt:54:1
+-- one read in a quiet period
 pub returns-clause-ran : goal.returns-clause-ran
-returns-clause-ran g c = ?
+returns-clause-ran g c = λ k.
+    run_after k (Ask ∷ []) c.read-asked.result c.args.core c.enter-quiet.result c.leave.result
+    c.enter-quiet.ensures
+    (run_before k (Ask ∷ []) c.read-asked.result c.enter-quiet.result c.read-asked.new.self
+    c.leave.result
+    (run_ask k c.read-asked.result c.enter-quiet.result c.read-asked.new.self
+    c.read-asked.ensures.adds) c.leave.ensures)
 
--- src/reading.rt:54:1
 pub returns-clause-bytes : goal.returns-clause-bytes
-returns-clause-bytes g c = ?
+returns-clause-bytes g c = let n = g.D.Nor in let d = g.K.Duty in
+    read_on n.bytes n.off n.steps n.faults n.setting n.may_end n.may_tear n.may_refuse
+    n.must_refuse d.part d.grants d.after d.good c.read-asked.result c.args.core
+    c.enter-quiet.result c.args.at (c.args.at + length c.args.out.now) c.read-asked.new.out
+    c.requires.inside c.enter-quiet.ensures c.read-asked.ensures.bytes

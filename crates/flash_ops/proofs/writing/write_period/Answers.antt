@@ -1,21 +1,35 @@
-use Rattle.std.proofs.Common.{rules, ◌≡◌, ◌+◌, ◌-◌, ◌%◌, ◌≤◌, ◌<◌, ◌^◌, ◌++◌, length, take, drop, OnOk, ℕ, ◌*◌, ◌/◌, Bool, true, false, nat_eq, nat_lt, List, [], ◌∷◌, slice_index_or, slice_set, bit_and, bit_or, Fits, w8, w32, w64, Bor, MutBor}
-use Rattle.bus_hub.specs.declared.did.Base.{Base}
-use Rattle.bus_hub.specs.declared.did.Did.{Did}
-use Rattle.cache_gate.specs.Own.{IsInside}
+use Rattle.std.proofs.Common.{None}
 use Rattle.flash_steps.specs.Steps.{write_steps}
-use Rattle.flash_ops.specs.Moves.{HasRun, looks, makes, periods_of, write_moves}
-use Rattle.flash_ops.specs.Asked.{CanRun}
-use Rattle.flash_ops.specs.Told.{counted, fault_of}
+use Rattle.flash_ops.specs.Moves.{makes, looks}
+use Rattle.flash_ops.proofs.Runs.{period_ran}
+use Rattle.flash_ops.proofs.Can.{can_blind, can_first, can_kept, room_behind}
 use Rattle.flash_ops.proofs.writing.write_period.Goals as goal
 
--- src/writing.rt:100:9
+-- the programs alone
 pub program-made-requires-clause-can : goal.program-made-requires-clause-can
-program-made-requires-clause-can g c = ?
+program-made-requires-clause-can g c =
+    let d = g.K.Duty in
+    let probe = c.args.beat.now.probe in
+    let moves = makes (write_steps c.args.at c.args.bytes.now) in
+    can_kept d.part d.grants d.moved moves None c.args.core c.enter-quiet.result
+    c.enter-quiet.ensures (can_blind d.part d.grants d.moved moves probe c.args.core
+    (can_first d.part d.grants d.moved moves (looks probe) probe c.args.core c.requires.can))
 
--- src/writing.rt:103:9
+-- they leave room for the look
 pub look_behind-looked-requires-clause-room : goal.look_behind-looked-requires-clause-room
-look_behind-looked-requires-clause-room g c = ?
+look_behind-looked-requires-clause-room g c =
+    let d = g.K.Duty in
+    room_behind d.part d.grants d.moved c.args.k
+    (makes (write_steps c.args.at c.args.bytes.now)) c.args.beat.now.probe
+    c.begin.new.beat.probe c.program-made.result c.args.core c.enter-quiet.result
+    c.program-made.new.quiet c.leave-core.result c.begin.ensures.probe c.requires.can
+    c.enter-quiet.ensures c.program-made.ensures c.leave-core.ensures
 
--- src/writing.rt:80:1
+-- the programs, and the look behind them
 pub returns-clause-ran : goal.returns-clause-ran
-returns-clause-ran g c = ?
+returns-clause-ran g c =
+    period_ran c.args.k (makes (write_steps c.args.at c.args.bytes.now)) c.args.beat.now.probe
+    c.begin.new.beat.probe c.program-made.result c.look_behind-looked.result c.args.core
+    c.enter-quiet.result c.program-made.new.quiet c.leave-core.result
+    c.look_behind-looked.new.core c.begin.ensures.probe c.enter-quiet.ensures
+    c.program-made.ensures c.leave-core.ensures c.look_behind-looked.ensures
