@@ -3,5 +3,6 @@ pub mod NumberLemmas
 pub mod ImageLemmas
 pub mod PartLemmas
 pub mod ViewLemmas
+pub mod OpeningLemmas
 pub mod BootLemmas
 pub mod ReadLemmas

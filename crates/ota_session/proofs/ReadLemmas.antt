@@ -31,7 +31,8 @@ use Rattle.update_steps.specs.Driver.{data_steps, driver_steps, image_steps, nex
 use Rattle.update_steps.specs.Session.{IsOpening}
 use Rattle.update_steps.proofs.DataLemmas.{aligned_row, data_begins}
 use Rattle.update_steps.proofs.SessionLemmas.{driver_is, sector_two}
-use Rattle.ota_session.specs.Course.{Course, Grants, IsGood, course_after, part_after, part_of}
+use Rattle.ota_session.specs.GoodLaws.{apart}
+use Rattle.ota_session.specs.Course.{Course, Grants, Install, Installs, IsFor, Purpose, steps_for, IsGood, course_after, part_after, part_of}
 use Rattle.ota_session.specs.DutyLaws.{made_good, other_stays, own_moves, torn_good}
 use Rattle.ota_session.proofs.PartLemmas.{driver_now, part_tells}
 
@@ -216,3 +217,56 @@ module _ (first : List ℕ) (layout : Places) (aim : Aim) (old image : List ℕ)
       ∙ ap (λ (l : List ℕ). slice_index l i)
       (data_begins row image first sectors.0 sectors.1 fits
       (stands_inside (length first) row stands) opens.bytes)
+
+-- ---- what is read back of it
+
+module _ {D S : Type 0}
+    (bytes : D → Option (List ℕ)) (off : D → Bool) (steps faults : D → ℕ) (setting : D → S)
+    (may_end : S → ℕ → StepEnd → Type 0) (may_tear : S → ℕ → List ℕ → Step → List ℕ → Type 0)
+    (may_refuse : S → ℕ → NorFault → Type 0) (must_refuse : S → ℕ → Type 0) where
+  abbrev Stood : Hub D Course → Base S Course → List Did → List Did → Type 0
+  Stood = StandsBy bytes off steps faults setting may_end may_tear may_refuse must_refuse
+
+  -- the flash at the opening of a bus is good by its duty
+  pub first_good : (h : Hub D Course) (b : Base S Course) (c : ℕ) (mine theirs : List Did) → c < 2
+      → in_order (Stood h b) c mine theirs → IsGood b.flash b.duty b.flash
+  first_good h b zero mine theirs small stands = stands.good_first
+  first_good h b (suc zero) mine theirs small stands = stands.good_first
+  first_good h b (suc (suc c)) mine theirs small stands = absurd (omega arith)
+
+  -- once the driver's share has made the data, the slot has the image: each byte of a bus that
+  -- stands for the base and this share, whatever the other core did, is the image's
+  pub slot_byte : (h : Hub D Course) (b : Base S Course) (c : ℕ) (mine theirs : List Did)
+      (aim : Aim) (image : List ℕ) (row : Row) (rest : List Step) (flash : List ℕ) → c < 2
+      → in_order (Stood h b) c mine theirs → c ≡ b.duty.driver → b.duty.made ≡ []
+      → b.duty.purpose ≡ Install aim image → slice_get b.duty.layout.slots aim.slot ≡ Some row
+      → b.duty.rest ≡ data_steps row.offset image ++ rest
+      → made mine ≡ data_steps row.offset image → bytes h.dev ≡ Some flash
+      → (i : ℕ) → i < length image → slice_index flash (row.offset + i) ≡ slice_index image i
+  slot_byte h b c mine theirs aim image row rest flash small stands own none for is split did told
+      i inside =
+      let written = data_steps row.offset image in
+      let layout = b.duty.layout in
+      let good = first_good h b c mine theirs small stands in
+      let installs : Installs layout b.flash aim image =
+      subst (λ (p : Purpose). IsFor layout b.flash p) for good.made_for.purpose in
+      let all : driver_steps layout aim image ≡ written ++ rest =
+      ap (steps_for layout) (sym for) ∙ good.made_for.steps
+      ∙ ap (λ (l : List Step). l ++ b.duty.rest) none ∙ split in
+      let beside : StandsBeside b.flash written rest (open_addresses b.duty.rows) flash =
+      subst (λ (l : List Step). StandsBeside b.flash (l ++ written) rest (open_addresses b.duty.rows)
+      flash) none
+      (stands_beside bytes off steps faults setting may_end may_tear may_refuse must_refuse h b c
+      mine theirs written rest flash small stands own split did told) in
+      let opens = installs.opens in
+      let row_fits = fits b.flash layout aim installs.old image opens row is in
+      let within = stands_inside (length b.flash) row
+      (opens.placed.stands (Ota aim.slot) row is) in
+      let spared : open_addresses b.duty.rows (row.offset + i) ≡ false =
+      (apart b.flash b.duty good.made_for).apps (Ota aim.slot) row is (row.offset + i)
+      (omega arith) (omega (arith, inside, row_fits)) in
+      beside_byte b.flash written rest (open_addresses b.duty.rows) flash (row.offset + i) beside
+      (omega (arith, inside, row_fits, within, beside.same_length)) spared
+      (slot_spared b.flash layout aim installs.old image opens row is rest all (row.offset + i)
+      (omega arith) (omega (arith, inside, row_fits)))
+      ∙ data_byte b.flash layout aim installs.old image opens row is i inside

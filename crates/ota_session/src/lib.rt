@@ -13,6 +13,8 @@ mod sealing;
 mod session;
 mod target;
 mod task;
+#[cfg(test)]
+mod tests;
 
 pub use confirming::confirm;
 pub use duty::UpdateDuty;
