@@ -1,5 +1,5 @@
 -- The answers of a session's calls.
-use Rattle.std.specs.Prelude.{◌≡◌, ◌≢◌, ℕ, ◌+◌, ◌==◌, if◌then◌else◌, List, [], ◌∷◌, length, slice_get, Option, Some, None, IfSome, Result, Ok, Err}
+use Rattle.std.specs.Prelude.{◌≡◌, ◌≢◌, ℕ, ◌+◌, ◌==◌, ◌&&◌, not, if◌then◌else◌, List, [], ◌∷◌, length, slice_get, Option, Some, None, IfSome, Result, Ok, Err}
 use Rattle.nor_device.specs.declared.nor.NorFault.{NorFault}
 use Rattle.nor_device.specs.declared.nor.NorFault.TheVariants.{Failed, Off}
 use Rattle.partition_table.specs.Layout.{Places}
@@ -29,14 +29,11 @@ abbrev pub found_as : Result (Option BadImage) StepNo → Result (Unit {0}) NorF
 found_as (Ok found) = Ok tt
 found_as (Err why) = Err (cause_of why)
 
--- the first byte of a piece, where it is not that of an image
-abbrev pub other_byte : List ℕ → Option ℕ
-other_byte [] = None
-other_byte (byte ∷ bytes) = if byte == 0xE9 then None else Some byte
-
 -- the first byte of the session, where this piece has it and it is not that of an image
 unfoldable pub wrong_byte : ℕ → List ℕ → Option ℕ
-wrong_byte written piece = if written == 0 then other_byte piece else None
+wrong_byte written [] = None
+wrong_byte written (byte ∷ bytes) =
+    if (written == 0) && not (byte == 0xE9) then Some byte else None
 
 module _ {S : Type 0} where
   -- a session has begun: the sectors are erased, and nothing is written

@@ -2,8 +2,9 @@
 
 ghost use Rattle.std.specs.Prelude.{◌≡◌, ◌+◌, ◌*◌, ◌<◌, ◌^◌, ◌%◌};
 ghost use Rattle.bus_hub.specs.declared.did.Base.{Base};
+ghost use Rattle.boot_run.specs.Rewriting.{rewrite};
 ghost use Rattle.cache_gate.specs.Own.{IsInside};
-ghost use Rattle.flash_ops.specs.Asked.{CanRun};
+ghost use Rattle.flash_ops.specs.Asked.{CanLook, HasRoomFor, MayMakeAll};
 ghost use Rattle.flash_ops.specs.Moves.{HasRun};
 ghost use Rattle.flash_ops.specs.Told.{fault_of};
 ghost use Rattle.ota_session.specs.Course.{Grants, part_after, part_of};
@@ -29,19 +30,22 @@ pub(crate) fn rewrite_entry<'w, 'a, R: Wait, D: Crash, P: Pace>(
     requires aligned { otadata % 4096 ≡ 0 }
     requires inside { IsInside core.base (otadata + 8192) }
     requires small { otadata + 8192 < 2 ^ 32 }
-    requires can { CanRun part_of Grants part_after
-        (entry_moves beat.old.probe otadata rewrite.now) beat.old.probe core }
+    requires may { MayMakeAll part_of Grants part_after core.base core.core core.share
+        (rewrite otadata rewrite.now) }
+    requires room { HasRoomFor core.base core.core core.share
+        (entry_moves beat.old.probe otadata rewrite.now) }
+    requires look { CanLook core.base core.regs beat.old.probe }
     ensures ran { HasRun 0 (entry_moves beat.old.probe otadata rewrite.now) (fault_of result.1)
         core.entry result.0 }
     ensures probe { beat.new.probe ≡ beat.old.probe }
     ensures pace { beat.new.pace ≡ beat.old.pace }
 {
     let at = otadata + SECTOR_SIZE * u32::from(rewrite.sector);
+    let mut bytes = [0; 32];
+    rewrite.entry.put(&mut bytes);
     let (core, erased) = erase(rt, core, beat, 0, at, SECTOR_SIZE);
     if let Err(no) = erased {
         return (core, Err(no));
     }
-    let mut bytes = [0; 32];
-    rewrite.entry.put(&mut bytes);
     write(rt, core, beat, 0, at, &bytes)
 }

@@ -1,9 +1,10 @@
 //! A session: the sectors of a slot are erased, and the image is written piece by piece.
 
-ghost use Rattle.std.specs.Prelude.{◌≡◌, ◌-◌, ◌+◌, IfErr, IfOk, Err, length};
+ghost use Rattle.std.specs.Prelude.{◌≡◌, ◌<◌, ◌^◌, ◌-◌, ◌+◌, IfErr, IfOk, Err, length};
 ghost use Rattle.bus_hub.specs.declared.did.Base.{Base};
 ghost use Rattle.flash_ops.specs.Asked.{CanLook, HasRoomFor};
 ghost use Rattle.flash_ops.specs.Moves.{HasRun};
+ghost use Rattle.update_steps.specs.Driver.{whole_sectors};
 ghost use Rattle.ota_session.specs.Stages.{IsNextPiece, IsOpen, IsWriting, begin_moves};
 ghost use Rattle.ota_session.specs.SessionTold.{HasBegun, HasWritten, IsNotWritten, cause_of, piece_moves, wrong_byte};
 
@@ -16,7 +17,7 @@ use cache_gate::Core;
 use crash_images::Crash;
 use flash_ops::{Beat, Pace, StepNo, erase, write};
 use nor_device::SECTOR_SIZE;
-use partition_table::Layout;
+use partition_table::{App, Layout};
 use std::marker::Model;
 use std::sync::Wait;
 
@@ -64,31 +65,38 @@ pub fn begin<'w, 'a, R: Wait, D: Crash, P: Pace>(
     ensures probe { beat.new.probe ≡ beat.old.probe }
     ensures pace { beat.new.pace ≡ beat.old.pace }
 {
-    let Some(row) = layout.slots.get(usize::from(aim.slot)) else {
-        unreachable!();
-    };
-    let sectors = aim.length.div_ceil(SECTOR_SIZE);
-    let (core, made) = erase(rt, core, beat, 0, row.offset, SECTOR_SIZE * sectors);
+    let row = layout.place(App::Ota(aim.slot));
+    let (core, made) = erase(rt, core, beat, 0, row.offset, sectors_of(aim.length));
     match made {
         Ok(()) => Ok(Ota {
             core,
-            target: Target::of(layout, row, aim),
+            target: Target::of(layout, &row, aim),
             written: 0,
         }),
         Err(no) => Err(Back { core, no }),
     }
 }
 
+/// How many bytes the sectors have that so many bytes need.
+fn sectors_of(length: u32) -> u32
+    requires small { whole_sectors length < 2 ^ 32 }
+    ensures exact { result ≡ whole_sectors length }
+{
+    length.div_ceil(SECTOR_SIZE) * SECTOR_SIZE
+}
+
 /// The first byte of the session, where this piece has it and it is not that of an image.
+#[tactic(auto, unfolding(crate::specs::SessionTold::wrong_byte))]
 fn wrong_byte(written: u32, piece: &[u8]) -> Option<u8>
     ensures exact { result ≡ wrong_byte written piece.now }
 {
-    if written != 0 {
+    let [byte, ..] = piece else {
         return None;
-    }
-    match piece.first() {
-        Some(byte) if *byte != MAGIC => Some(*byte),
-        _ => None,
+    };
+    if written == 0 && *byte != MAGIC {
+        Some(*byte)
+    } else {
+        None
     }
 }
 
