@@ -15,7 +15,7 @@ use Rattle.nor_device.specs.Ram.{Ram}
 use Rattle.crash_images.specs.declared.cut.CutSetting.{CutSetting}
 use Rattle.crash_images.specs.declared.cut.Health.{Health}
 use Rattle.crash_images.specs.declared.cut.Health.TheVariants as is
-use Rattle.crash_images.specs.Cut.{CutDevice, EndsBy, IsAhead, restarted, unspent_of}
+use Rattle.crash_images.specs.Cut.{CutDevice, EndsBy, IsAhead, IsBad, restarted, unspent_of}
 use Rattle.crash_images.specs.Crash.{LeftAfter}
 use Rattle.crash_images.proofs.CutLaws.{chosen_ends, chosen_refuses}
 use Rattle.partition_table.specs.Layout.{Places}
@@ -32,17 +32,18 @@ use Rattle.boot_run.specs.Rewriting.{rewrites}
 use Rattle.boot_run.proofs.MadeLemmas.{made_by_left}
 use Rattle.power_cut.specs.declared.legs.Leg.{Leg}
 use Rattle.power_cut.specs.declared.legs.LegEnd.{LegEnd}
-use Rattle.power_cut.specs.declared.legs.LegEnd.TheVariants.{Done, Device, Cut}
-use Rattle.power_cut.specs.Device.{BrokeAt, HasEnd, IsRan, IsReady, IsUnbroken, MayEnd, MayRefuse, MayTear, MustRefuse, RamMayEnd, RamMayRefuse, is_cut, is_off, running_in, setting_of}
+use Rattle.power_cut.specs.declared.legs.LegEnd.TheVariants.{Done, Device, Cut, FirstByte, Empty, Bad}
+use Rattle.power_cut.specs.Device.{BrokeAt, HasEnd, IsRan, IsReady, IsUnbroken, IsWholeEnd, MayEnd, MayRefuse, MayTear, MustRefuse, RamMayEnd, RamMayRefuse, is_cut, is_off, running_in, setting_of}
+use Rattle.power_cut.specs.Refused.{end_asked}
 use Rattle.power_cut.specs.Whole.{HasBooted, IsBootLeg, boot_steps, end_by, is_done, started_by}
 
 -- a step ends by the choice alone
-by_choice : (set : CutSetting (Unit {0})) (n : ℕ) (end : StepEnd) → MayEnd set n end
+pub by_choice : (set : CutSetting (Unit {0})) (n : ℕ) (end : StepEnd) → MayEnd set n end
     → EndsBy set.cut set.fail n end
 by_choice set n end may =
     (chosen_ends RamMayEnd RamMayRefuse (λ s m e is. is) (λ s m why no. no) set n end).0 may
 
-refused_by_choice : (set : CutSetting (Unit {0})) (n : ℕ) (why : NorFault) → MayRefuse set n why
+pub refused_by_choice : (set : CutSetting (Unit {0})) (n : ℕ) (why : NorFault) → MayRefuse set n why
     → EndsBy set.cut set.fail n (nor.end_by why)
 refused_by_choice set n why may =
     (chosen_refuses RamMayEnd RamMayRefuse (λ s m e is. is) (λ s m w no. no) set n why).0 may
@@ -296,3 +297,115 @@ module _ (layout : Places) (old new : CutDevice Ram) (answer : Result (Option Bo
           )
       by (Err Failed) made boot off end = ap is_done end
       by (Err Off) made boot off end = ap is_done end
+
+-- ---- a leg by the device that came back
+
+-- a leg in which nothing broke off has the end of a whole leg
+whole_end : (old : CutDevice Ram) (now : ℕ) (whole : LegEnd) → IsUnbroken old now
+    → IsWholeEnd whole → HasEnd old now whole whole
+whole_end old now Done ahead is = (ahead, refl)
+whole_end old now (Device k) ahead is = absurd is
+whole_end old now (Cut k) ahead is = absurd is
+whole_end old now (FirstByte byte) ahead is = (ahead, refl)
+whole_end old now Empty ahead is = (ahead, refl)
+whole_end old now (Bad why) ahead is = (ahead, refl)
+
+whole_on : (whole : LegEnd) → IsWholeEnd whole → is_cut whole ≡ false
+whole_on Done is = refl
+whole_on (Device k) is = absurd is
+whole_on (Cut k) is = absurd is
+whole_on (FirstByte byte) is = refl
+whole_on Empty is = refl
+whole_on (Bad why) is = refl
+
+module _ (old new : CutDevice Ram) (whole wanted : LegEnd) (asked : Result (Unit {0}) NorFault)
+    (ready : IsReady old) (setting : setting_of new ≡ setting_of old)
+    (allowed : IfErr asked (MayRefuse (setting_of new) new.steps))
+    (stopped : OnOk asked (¬ MustRefuse (setting_of new) new.steps))
+    (told : IsUnbroken old new.steps ⊎ IsBad old.cut old.fail new.steps)
+    (whole_is : IsWholeEnd wanted) (same : ¬ IsBad old.cut old.fail new.steps → whole ≡ wanted) where
+  asked_end : HasEnd old new.steps wanted (end_asked new.steps whole asked)
+  asked_end = at asked
+      (subst (λ (set : CutSetting (Unit {0})). IfErr asked (MayRefuse set new.steps)) setting allowed)
+      (subst (λ (set : CutSetting (Unit {0})). OnOk asked (¬ MustRefuse set new.steps)) setting
+      stopped)
+    where
+      at : (r : Result (Unit {0}) NorFault) → IfErr r (MayRefuse (setting_of old) new.steps)
+          → OnOk r (¬ MustRefuse (setting_of old) new.steps)
+          → HasEnd old new.steps wanted (end_asked new.steps whole r)
+      at (Ok x) allowed not_bad = elim told [
+        | inl ahead ↦ subst (HasEnd old new.steps wanted) (sym (same not_bad))
+            (whole_end old new.steps wanted ahead whole_is)
+        | inr bad ↦ absurd (not_bad bad)
+      ]
+      at (Err Failed) may stopped =
+          let is : old.fail ≡ Some new.steps =
+          refused_by_choice (setting_of old) new.steps Failed may in
+          record {
+            chosen_is = is;
+            later = is_behind old.fail old.steps new.steps ready.ahead.fail_ahead is;
+            last = refl;
+          }
+      at (Err Off) may stopped =
+          let is : old.cut ≡ Some new.steps =
+          refused_by_choice (setting_of old) new.steps Off may in
+          record {
+            chosen_is = is;
+            later = is_behind old.cut old.steps new.steps ready.ahead.cut_ahead is;
+            last = refl;
+          }
+
+  asked_power : (IsErrOf asked Off → IsTrue (is_off new)) × (IsTrue (is_off new) → IsErrOf asked Off)
+      → is_off new ≡ is_cut (end_asked new.steps whole asked)
+  asked_power off = at asked (is_off new) off
+      (subst (λ (set : CutSetting (Unit {0})). OnOk asked (¬ MustRefuse set new.steps)) setting
+      stopped)
+    where
+      at : (r : Result (Unit {0}) NorFault) (is_off : Bool)
+          → (IsErrOf r Off → IsTrue is_off) × (IsTrue is_off → IsErrOf r Off)
+          → OnOk r (¬ MustRefuse (setting_of old) new.steps)
+          → is_off ≡ is_cut (end_asked new.steps whole r)
+      at (Ok x) true off not_bad = absurd (let e = off.1 refl in cc)
+      at (Ok x) false off not_bad =
+          sym (whole_on wanted whole_is) ∙ ap is_cut (sym (same not_bad))
+      at (Err Failed) true off stopped = absurd (let e = off.1 refl in cc)
+      at (Err Failed) false off stopped = refl
+      at (Err Off) true off stopped = refl
+      at (Err Off) false off stopped = absurd (let e = off.0 refl in cc)
+
+  pub behind_ran : (leg : Leg) → running_in new ≡ None
+      → length new.inner.bytes ≡ length old.inner.bytes → old.steps + leg.steps ≡ new.steps
+      → leg.end ≡ end_asked new.steps whole asked
+      → (IsErrOf asked Off → IsTrue (is_off new)) × (IsTrue (is_off new) → IsErrOf asked Off)
+      → IsRan old new wanted leg
+  behind_ran leg idle size steps end off = record {
+    idle = idle;
+    size = size;
+    setting = setting;
+    steps = sym steps;
+    end = subst (HasEnd old new.steps wanted) (sym end) asked_end;
+    power = asked_power off ∙ ap is_cut (sym end);
+  }
+
+-- the same, by what the read says of the device as it was before
+pub ran_by : (old dev new : CutDevice Ram) (whole wanted : LegEnd)
+    (asked : Result (Unit {0}) NorFault) → IsReady old → setting_of new ≡ setting_of old
+    → new.steps ≡ dev.steps → setting_of new ≡ setting_of dev
+    → IfErr asked (MayRefuse (setting_of dev) dev.steps)
+    → OnOk asked (¬ MustRefuse (setting_of dev) dev.steps)
+    → IsUnbroken old new.steps ⊎ IsBad old.cut old.fail new.steps → IsWholeEnd wanted
+    → (¬ IsBad old.cut old.fail new.steps → whole ≡ wanted) → (leg : Leg)
+    → running_in new ≡ None → length new.inner.bytes ≡ length old.inner.bytes
+    → old.steps + leg.steps ≡ new.steps → leg.end ≡ end_asked new.steps whole asked
+    → (IsErrOf asked Off → IsTrue (is_off new)) × (IsTrue (is_off new) → IsErrOf asked Off)
+    → IsRan old new wanted leg
+ran_by old dev new whole wanted asked ready setting number here allowed stopped told whole_is same
+    leg idle size steps end off =
+    behind_ran old new whole wanted asked ready setting
+    (subst (λ n. IfErr asked (MayRefuse (setting_of new) n)) (sym number)
+    (subst (λ (set : CutSetting (Unit {0})). IfErr asked (MayRefuse set dev.steps)) (sym here)
+    allowed))
+    (subst (λ n. OnOk asked (¬ MustRefuse (setting_of new) n)) (sym number)
+    (subst (λ (set : CutSetting (Unit {0})). OnOk asked (¬ MustRefuse set dev.steps)) (sym here)
+    stopped))
+    told whole_is same leg idle size steps end off

@@ -1,3 +1,5 @@
 -- Base first. Crates above cite these lemmas.
 pub mod BehindLemmas
 pub mod EndsLemmas
+pub mod WholeLemmas
+pub mod LogLemmas

@@ -7,6 +7,7 @@ use Rattle.nor_device.specs.declared.step.Step.{Step}
 use Rattle.nor_device.specs.Flash.{after_steps}
 use Rattle.nor_device.specs.Ram.{Ram}
 use Rattle.crash_images.specs.Cut.{CutDevice, restarted}
+use Rattle.partition_table.specs.declared.app.App.TheVariants.{Ota}
 use Rattle.partition_table.specs.Layout.{Places}
 use Rattle.boot_select.specs.Boots.{entries_in, images_in}
 use Rattle.rollback.specs.declared.rewrite.Rewrite.{Rewrite}
@@ -14,6 +15,7 @@ use Rattle.rollback.specs.Boot.{boot_writes}
 use Rattle.rollback.specs.Boots.{boots_in}
 use Rattle.image_verify.specs.Held.{held}
 use Rattle.bus_hub.specs.Room.{Kept}
+use Rattle.boot_run.specs.declared.aims.Aim.{Aim}
 use Rattle.boot_run.specs.declared.booted.Booted.{Booted}
 use Rattle.boot_run.specs.Booted.{IsBoot}
 use Rattle.boot_run.specs.Made.{AreMadeBy}
@@ -27,6 +29,7 @@ use Rattle.power_cut.specs.declared.legs.Upto.{Upto}
 use Rattle.power_cut.specs.declared.legs.Upto.TheVariants.{Session, Boot, Confirm}
 use Rattle.power_cut.specs.declared.outcome.Trial.{Trial}
 use Rattle.power_cut.specs.Device.{IsRan, IsReady, MayEnd, MayRefuse, MayTear, MustRefuse, setting_of}
+use Rattle.power_cut.specs.Update.{BootsEither}
 use Rattle.power_cut.specs.Kept.{MayConfirm}
 
 -- the steps of a boot of this flash
@@ -85,6 +88,12 @@ wants_confirm Session = false
 wants_confirm Boot = false
 wants_confirm Confirm = true
 
+-- what was booted, where it is to be confirmed
+abbrev pub confirm_of : Upto → Option Booted → Option Booted
+confirm_of Session booted = None
+confirm_of Boot booted = None
+confirm_of Confirm booted = booted
+
 -- the update ends with these legs, this journal of a confirmation, and the flash of this device
 pub record EndsWith (legs : List Leg) (confirm : Option Kept) (dev : CutDevice Ram) (t : Trial)
     : Type 0 where
@@ -136,3 +145,26 @@ pub record IsTrial (writes : Ran → Type 0) (confirms : CutDevice Ram → Bor B
 abbrev pub AreDone : List Leg → Type 0
 AreDone [] = Unit {0}
 AreDone (leg ∷ legs) = (leg.end ≡ Done) × AreDone legs
+
+-- an update was closed with these parts of it: what boots of its flash is told
+pub record IsClosed (layout : Places) (legs : List Leg) (session : Kept) (confirm : Option Kept)
+    (dev : CutDevice Ram) (t : Trial) : Type 0 where
+  pub ends : EndsWith legs confirm dev t
+  pub session_is : t.session ≡ session
+  pub after : IsBoot layout (images_in held layout t.flash.items)
+      (entries_in layout t.flash.items) (Some t.after)
+
+-- the new application boots
+abbrev pub BootsNew : Places → Aim → List ℕ → List ℕ → Type 0
+BootsNew layout aim image left = boots_in held layout left ≡ Some (Ota aim.slot, image)
+
+-- an update and what it has left: one of both applications boots, and some in every case; and where
+-- its last leg is made whole and is no boot, the new one
+pub record IsOutcome (writes : Ran → Type 0)
+    (confirms : CutDevice Ram → Bor Booted → Bor Rewrite → Ran → Type 0) (layout : Places)
+    (first : List ℕ) (aim : Aim) (image : List ℕ) (upto : Upto) (t : Trial) : Type 0 where
+  pub trial : IsTrial writes confirms layout first upto t
+  pub boots : BootsEither layout first aim image t.flash.items
+  pub after : IsBoot layout (images_in held layout t.flash.items)
+      (entries_in layout t.flash.items) (Some t.after)
+  pub installed : upto ≢ Boot → AreDone t.legs.items → BootsNew layout aim image t.flash.items

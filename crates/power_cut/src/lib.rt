@@ -2,12 +2,15 @@
 //! the flash that is left.
 #![tactic(auto)]
 
+mod behind;
 mod booting;
+mod closing;
 mod legs;
 mod outcome;
 mod run;
 mod runner;
 
+pub use behind::leg_behind;
 pub use legs::{Leg, LegEnd, Ran, Upto};
 pub use outcome::Trial;
 pub use run::trial;
