@@ -1,5 +1,5 @@
 -- What a core did for each action.
-use Rattle.std.proofs.Common.{◌≡◌, ◌≢◌, ℕ, ◌+◌, ◌≤◌, List, [], ◌∷◌, ◌++◌, length, Option, Some, None, Result, Ok, Err, ◌⊎◌, inl, inr, refl, sym, ap, subst, ◌∙◌, append-nil, append_assoc}
+use Rattle.std.proofs.Common.{◌≡◌, ◌≢◌, ℕ, ◌+◌, ◌≤◌, List, [], ◌∷◌, ◌++◌, length, Option, Some, None, Result, Ok, Err, ◌⊎◌, inl, inr, refl, sym, ap, subst, ◌∙◌, append-nil, append_assoc, arith}
 use Rattle.std.specs.Prelude.{IfOk, IfErr, ◌↔◌}
 use Rattle.arrayvec.specs.ArrayVec.{ArrayVec}
 use Rattle.core_state.specs.declared.registers.Regs.{Regs}
@@ -24,10 +24,13 @@ use Rattle.bus_hub.specs.declared.did.Did.TheVariants.{Noted, Mapping, Unmapping
 use Rattle.bus_hub.specs.declared.reads.FetchNo.{FetchNo}
 use Rattle.bus_hub.specs.declared.reads.FetchNo.TheVariants as refusals
 use Rattle.bus_hub.specs.Fetch.{IsServed}
+use Rattle.bus_hub.specs.declared.did.Base.{Base}
+use Rattle.bus_hub.specs.Hub.{needs, byte_needs}
 use Rattle.bus_hub.specs.Log.{IsNote}
 use Rattle.bus_hub.specs.Told.{fetch_items}
 use Rattle.cache_gate.specs.Works.{Works, events_in}
-use Rattle.cache_gate.specs.Own.{Own, Adds, Keeps, HasFetched, did, saw, set_to}
+use Rattle.cache_gate.specs.Own.{Own, Adds, Keeps, HasFetched, HasRoom, did, saw, set_to}
+use Rattle.cache_gate.proofs.Rooms.{room_added}
 use Rattle.cache_gate.proofs.Walks.{events_in-append, works_first, works_last, works_then}
 use Rattle.flash_ops.specs.declared.refusal.OpNo.{OpNo}
 use Rattle.flash_ops.specs.declared.refusal.OpNo.TheVariants as ops
@@ -37,6 +40,7 @@ use Rattle.flash_ops.specs.Told.{HasChanged, barred_by, fault_of}
 use Rattle.duo_run.specs.Worker.{Acted, BreaksOff, HasLeft, HasWritten, mapped_act, note, refused, regs_after, unmapped_act, why_of}
 use Rattle.duo_run.specs.Works.{HasActed}
 use Rattle.duo_run.specs.Ends.{NotesEnd, end_act}
+use Rattle.duo_run.proofs.AskLemmas.{room_less}
 
 -- ---- what was added, one after the other
 
@@ -84,23 +88,13 @@ module _ {B : Type 0} where
 
 -- ---- fetch
 
--- what is not masked is served
-served : (mask at : ℕ) (r : Result (Unit {0}) FetchNo)
+-- what is masked is not served
+pub masked_out : (mask at : ℕ) (r : Result (Unit {0}) FetchNo) → r ≡ Err refusals.Masked
     → (r ≢ Err refusals.Unmapped → r ≡ Err refusals.Masked ↔ (¬ IsServed mask at))
-    → r ≢ Err refusals.Unmapped → r ≢ Err refusals.Masked → IsServed mask at
-served mask at r told reached not_masked zero_is =
-    not_masked ((told reached).1 (λ set. set zero_is))
+    → ¬ IsServed mask at
+masked_out mask at r is told = (told (λ unmapped. cc)).0 is
 
 module _ {B : Type 0} where
-  pub fetch_ok : (rows : List Row) (k at len : ℕ) (u : Unit {0}) (o a : Own B Did)
-      → HasFetched k at len (Ok u) o a → IsServed o.regs.mask at
-      → HasActed rows k (Fetch at len) (Ok tt) o a
-  fetch_ok rows k at len u o a f is = record {
-    items = _;
-    adds = f.adds;
-    acted = inl (record { served = is; bytes = f.bytes; many = f.many; is = refl });
-  }
-
   pub fetch_missed : (rows : List Row) (k at len : ℕ) (o a b : Own B Did)
       → HasFetched k at len (Err refusals.Unmapped) o a
       → Adds (Noted k a.regs (acts.Refused whys.Unmapped) ∷ []) a b
@@ -147,12 +141,12 @@ module _ {B : Type 0} where
 -- an answer of the map is noted
 pub mapped_note : (answer : Result ℕ NoPages) → IsNote (mapped_act answer)
 mapped_note (Ok at) = tt
-mapped_note (Err no) = tt
+mapped_note (Err refusal) = tt
 
 pub unmapped_note : (at : ℕ) (answer : Result (Unit {0}) NotMapped)
     → IsNote (unmapped_act at answer)
 unmapped_note at (Ok u) = tt
-unmapped_note at (Err no) = tt
+unmapped_note at (Err refusal) = tt
 
 module _ {B : Type 0} where
   pub pages_mapped : (rows : List Row) (k page n : ℕ) (space : Space)
@@ -180,7 +174,8 @@ module _ {B : Type 0} where
 -- ---- writes and erases
 
 -- what is noted of a refusal
-barred_act : (no : PartNo) → end_act (Err (barred_by no)) ≡ Ok (acts.Refused (why_of no))
+barred_act : (refusal : PartNo)
+    → end_act (Err (barred_by refusal)) ≡ Ok (acts.Refused (why_of refusal))
 barred_act part.NoLabel = refl
 barred_act part.Dangerous = refl
 barred_act part.ReadOnly = refl
@@ -189,7 +184,8 @@ barred_act part.Unaligned = refl
 barred_act part.Range = refl
 
 -- a write or an erase of a partition and its note, by whether the device refused
-abbrev Wrote : ℕ → Regs → Result Row PartNo → List Step → Result (Unit {0}) NorFault → List Did → Type 0
+abbrev Wrote : ℕ → Regs → Result Row PartNo → List Step → Result (Unit {0}) NorFault → List Did
+    → Type 0
 Wrote k regs checked steps (Ok _) items = HasWritten k regs checked steps items
 Wrote k regs checked steps (Err why) items = BreaksOff k regs why checked steps items
 
@@ -201,20 +197,21 @@ record HasWrote {B : Type 0} (k : ℕ) (checked : Result Row PartNo) (steps : Li
 
 module _ {B : Type 0} where
   -- it was refused
-  wrote_barred : (k : ℕ) (no : PartNo) (steps : List Step) (end' : Result (Unit {0}) OpNo)
-      (r : Result (Unit {0}) StepNo) (o a b : Own B Did) → end' ≡ Err (barred_by no)
-      → Keeps o a → NotesEnd k (end_act end') r a b → HasWrote k (Err no) steps r o b
-  wrote_barred k no steps end' r o a b is keeps notes =
-      let act_is : end_act end' ≡ Ok (acts.Refused (why_of no)) = ap end_act is ∙ barred_act no in
-      let both : (r ≡ Ok tt) × Adds (refused k a.regs (why_of no)) a b =
+  wrote_barred : (k : ℕ) (refusal : PartNo) (steps : List Step) (end' : Result (Unit {0}) OpNo)
+      (r : Result (Unit {0}) StepNo) (o a b : Own B Did) → end' ≡ Err (barred_by refusal)
+      → Keeps o a → NotesEnd k (end_act end') r a b → HasWrote k (Err refusal) steps r o b
+  wrote_barred k refusal steps end' r o a b is keeps notes =
+      let act_is : end_act end' ≡ Ok (acts.Refused (why_of refusal)) =
+      ap end_act is ∙ barred_act refusal in
+      let both : (r ≡ Ok tt) × Adds (refused k a.regs (why_of refusal)) a b =
       subst (λ (x : Result Act StepNo). NotesEnd k x r a b) act_is notes in
       record {
-        items = refused k o.regs (why_of no);
-        adds = keeps_adds (refused k o.regs (why_of no)) o a b keeps
-            (subst (λ (regs : Regs). Adds (refused k regs (why_of no)) a b)
+        items = refused k o.regs (why_of refusal);
+        adds = keeps_adds (refused k o.regs (why_of refusal)) o a b keeps
+            (subst (λ (regs : Regs). Adds (refused k regs (why_of refusal)) a b)
             (ap (λ (z : Own B Did). z.regs) keeps.is) both.1);
-        wrote = subst (λ (x : Result (Unit {0}) StepNo). Wrote k o.regs (Err no) steps (fault_of x)
-            (refused k o.regs (why_of no))) (sym both.0) refl;
+        wrote = subst (λ (x : Result (Unit {0}) StepNo). Wrote k o.regs (Err refusal) steps
+            (fault_of x) (refused k o.regs (why_of refusal))) (sym both.0) refl;
       }
 
   -- it was not
@@ -256,8 +253,8 @@ module _ {B : Type 0} where
       → HasWrote k checked steps r o b
   wrote_by k (Ok row) steps end' r o a b barred ran notes =
       wrote_ran k row steps end' r o a b ran notes
-  wrote_by k (Err no) steps end' r o a b barred ran notes =
-      wrote_barred k no steps end' r o a b barred.0 barred.1 notes
+  wrote_by k (Err refusal) steps end' r o a b barred ran notes =
+      wrote_barred k refusal steps end' r o a b barred.0 barred.1 notes
 
   write_by : (rows : List Row) (k : ℕ) (label : ArrayVec ℕ) (offset : ℕ) (bytes : List ℕ)
       (r : Result (Unit {0}) StepNo) (o b : Own B Did)
@@ -293,7 +290,8 @@ module _ {B : Type 0} where
       → HasActed rows k (Write label offset bytes) (fault_of r) o b
   write_acted rows k label offset bytes end' r o a b barred ran notes =
       write_by rows k label offset bytes r o b
-      (wrote_by k (write_checked rows label.items offset (length bytes)) _ end' r o a b barred ran notes)
+      (wrote_by k (write_checked rows label.items offset (length bytes)) _ end' r o a b barred ran
+      notes)
 
   pub erase_acted : (rows : List Row) (k : ℕ) (label : ArrayVec ℕ) (offset len : ℕ)
       (end' : Result (Unit {0}) OpNo) (r : Result (Unit {0}) StepNo) (o a b : Own B Did)
@@ -306,3 +304,13 @@ module _ {B : Type 0} where
   erase_acted rows k label offset len end' r o a b barred ran notes =
       erase_by rows k label offset len r o b
       (wrote_by k (erase_checked rows label.items offset len) _ end' r o a b barred ran notes)
+
+-- room is left to note a mark
+module _ {S K : Type 0} where
+  pub mark_room : (o a : Own (Base S K) Did) (mark : Did) (n : ℕ) → needs (mark ∷ []) ≡ 0
+      → byte_needs (mark ∷ []) ≡ 0 → HasRoom o.base o.core o.share 1 n → Adds (mark ∷ []) o a
+      → HasRoom a.base a.core a.share 1 0
+  mark_room o a mark n few small room adds =
+      room_added o a (mark ∷ []) 1 0 0 n adds
+      (room_less o.base o.core o.share 1 n _ _ room (omega arith) (omega arith))
+      (omega arith) (omega arith)

@@ -28,7 +28,7 @@ use Rattle.cache_gate.proofs.Taken.{needs-append, byte_needs-append}
 use Rattle.cache_gate.proofs.Rooms.{room_added, room_kept}
 use Rattle.flash_ops.specs.declared.refusal.OpNo.{OpNo}
 use Rattle.flash_ops.specs.declared.refusal.OpNo.TheVariants as ops
-use Rattle.flash_ops.specs.Moves.{makes}
+use Rattle.flash_ops.specs.Moves.{makes, bytes_for}
 use Rattle.flash_ops.specs.Asked.{GrantsAll, MayMakeAll, CanChange}
 use Rattle.flash_ops.specs.Told.{HasChanged, barred_by}
 use Rattle.duo_run.specs.Worker.{BreaksOff, HasEnded, HasLeft, HasWritten, action_steps, regs_after}
@@ -121,13 +121,15 @@ write_is : (rows : List Row) (label : List ℕ) (offset : ℕ) (bytes : List ℕ
     → write_checked rows label offset (length bytes) ≡ Ok row
     → part_write_steps rows label offset bytes ≡ write_steps (row.offset + offset) bytes
 unfolding part_write_steps
-write_is rows label offset bytes row is = ap (λ (r : Result Row PartNo). steps_in r _) is
+write_is rows label offset bytes row is =
+    ap (λ (r : Result Row PartNo). steps_in r (λ row. write_steps (row.offset + offset) bytes)) is
 
 erase_is : (rows : List Row) (label : List ℕ) (offset len : ℕ) (row : Row)
     → erase_checked rows label offset len ≡ Ok row
     → part_erase_steps rows label offset len ≡ erase_steps (row.offset + offset) len
 unfolding part_erase_steps
-erase_is rows label offset len row is = ap (λ (r : Result Row PartNo). steps_in r _) is
+erase_is rows label offset len row is =
+    ap (λ (r : Result Row PartNo). steps_in r (λ row. erase_steps (row.offset + offset) len)) is
 
 same_page : (a b n : ℕ) → a % 4096 ≡ 0 → b % 256 + n ≤ 256 → (a + b) % 256 + n ≤ 256
 same_page a b n sector inside = omega arith
@@ -152,23 +154,23 @@ few_steps rows label offset len row is =
 
 -- ---- what an action needs
 
-module _ {S K : Type 0} where
-  written_needs : (k : ℕ) (regs : Regs) (checked : Result Row PartNo) (steps : List Step)
-      (items : List Did) (n : ℕ) → ((row : Row) → checked ≡ Ok row → length steps ≤ n)
-      → HasWritten k regs checked steps items
-      → (needs items ≤ 2 * n + 1) × (byte_needs items ≤ 0)
-  written_needs k regs (Ok row) steps items n few w =
-      let l = few row refl in
-      let both = follows_needs k regs steps w.did w.follows in
-      let a = both.0 in
-      let b = both.1 in
-      let e = ap needs w.is ∙ needs-append w.did _ in
-      let f = ap byte_needs w.is ∙ byte_needs-append w.did _ in
-      (omega arith, omega arith)
-  written_needs k regs (Err no) steps items n few w =
-      let e = ap needs w in
-      let f = ap byte_needs w in (omega arith, omega arith)
+written_needs : (k : ℕ) (regs : Regs) (checked : Result Row PartNo) (steps : List Step)
+    (items : List Did) (n : ℕ) → ((row : Row) → checked ≡ Ok row → length steps ≤ n)
+    → HasWritten k regs checked steps items
+    → (needs items ≤ 2 * n + 1) × (byte_needs items ≤ 0)
+written_needs k regs (Ok row) steps items n few w =
+    let l = few row refl in
+    let both = follows_needs k regs steps w.did w.follows in
+    let a = both.0 in
+    let b = both.1 in
+    let e = ap needs w.is ∙ needs-append w.did _ in
+    let f = ap byte_needs w.is ∙ byte_needs-append w.did _ in
+    (omega arith, omega arith)
+written_needs k regs (Err refusal) steps items n few w =
+    let e = ap needs w in
+    let f = ap byte_needs w in (omega arith, omega arith)
 
+module _ {S K : Type 0} where
   pub left_needs : (base : Option (Base S K)) (rows : List Row) (k : ℕ) (regs : Regs)
       (action : Action) (items : List Did) → OnBase base (FitsBase rows) → IsInBounds action
       → HasLeft rows k regs action items
@@ -220,7 +222,8 @@ module _ {S K P : Type 0} (part : K → ℕ → P) (grants : P → Step → Type
     can = record {
       may = subst (λ (s : List Step). MayMakeAll part grants moved o.base o.core o.share s)
           (sym (steps_of-makes steps)) may;
-      room = subst (λ (n : ℕ). HasRoom o.base o.core o.share n _) (sym (entries_for-makes steps))
+      room = subst (λ (n : ℕ). HasRoom o.base o.core o.share n (bytes_for (makes steps)))
+          (sym (entries_for-makes steps))
           (subst (λ (m : ℕ). HasRoom o.base o.core o.share (2 * length steps) m)
           (sym (bytes_for-makes steps)) room);
       look = tt;
@@ -240,7 +243,7 @@ module _ {S K P : Type 0} (part : K → ℕ → P) (grants : P → Step → Type
           → write_checked rows label.items offset (length bytes) ≡ checked
           → IfOk checked (λ row. CanChange part grants moved (row.offset + offset) (length bytes)
           (part_write_steps rows label.items offset bytes) o)
-      by (Err no) is = tt
+      by (Err refusal) is = tt
       by (Ok row) is =
           let open_for = write_open rows label.items offset (length bytes) row is in
           let few = one_step rows label.items offset bytes row
@@ -263,7 +266,7 @@ module _ {S K P : Type 0} (part : K → ℕ → P) (grants : P → Step → Type
       by : (checked : Result Row PartNo) → erase_checked rows label.items offset len ≡ checked
           → IfOk checked (λ row. CanChange part grants moved (row.offset + offset) len
           (part_erase_steps rows label.items offset len) o)
-      by (Err no) is = tt
+      by (Err refusal) is = tt
       by (Ok row) is =
           let open_for = (erase_open rows label.items offset len row is).0 in
           let few = few_steps rows label.items offset len row is in
@@ -310,7 +313,7 @@ module _ {S K : Type 0} where
       → IfOk checked (λ _. HasChanged k steps r o a) → HasRoom a.base a.core a.share 1 0
   end_room o a k n (Ok row) steps r few room barred ran =
       changed_room o a k n steps r (few row refl) room ran
-  end_room o a k n (Err no) steps r few room barred ran =
+  end_room o a k n (Err refusal) steps r few room barred ran =
       room_kept o a 1 0 barred.1
       (room_less o.base o.core o.share (2 * n + 1) 0 1 0 room (omega arith) (omega arith))
 
@@ -327,8 +330,8 @@ mask_after regs (Erase label offset len) bounds small = small
 
 module _ {S K P : Type 0} (part : K → ℕ → P) (grants : P → Step → Type 0)
     (moved : P → Step → P) where
-  pub write_room : (o a : Own (Base S K) Did) (k : ℕ) (rows : List Row) (label : ArrayVec ℕ) (offset : ℕ)
-      (bytes : List ℕ) (r : Result (Unit {0}) OpNo)
+  pub write_room : (o a : Own (Base S K) Did) (k : ℕ) (rows : List Row) (label : ArrayVec ℕ)
+      (offset : ℕ) (bytes : List ℕ) (r : Result (Unit {0}) OpNo)
       → CanAct part grants moved rows (Write label offset bytes) o
       → IfErr (write_checked rows label.items offset (length bytes))
       (λ why. (r ≡ Err (barred_by why)) × Keeps o a)

@@ -4,5 +4,5 @@ pub mod ShareLemmas
 pub mod OpenLemmas
 mod AskLemmas
 mod ActLemmas
-mod WorkLemmas
+pub mod WorkLemmas
 mod RoomLemmas

@@ -35,7 +35,8 @@ script_inside flash rows (action ∷ later) fits =
     all_append (LiesInOpenPart rows) (action_steps rows action) (worker_steps rows later)
     (action_inside flash rows action fits) (script_inside flash rows later fits)
 
--- a part of a duty that allows every step of such partitions, and stays such a part, allows them all
+-- a part of a duty that allows every step in such partitions, and stays such a part, allows them
+-- all
 pub grants_open : {P : Type 0} (grants : P → Step → Type 0) (moved : P → Step → P)
     (open_to : P → Type 0) (rows : List Row)
     → ((p : P) (step : Step) → open_to p → LiesInOpenPart rows step

@@ -55,4 +55,8 @@ counted_next script i entries bytes action is bounds c =
     let x = c.entries_are in
     let y = c.bytes_are in
     let z = c.bytes_most in
-    rw add-one (record { entries_are = omega arith; bytes_are = omega arith; bytes_most = omega arith })
+    rw add-one (record {
+      entries_are = omega arith;
+      bytes_are = omega arith;
+      bytes_most = omega arith;
+    })

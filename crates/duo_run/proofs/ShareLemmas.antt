@@ -9,6 +9,7 @@ use Rattle.partition_table.specs.declared.row.Row.{Row}
 use Rattle.flash_steps.specs.declared.refusal.PartNo.{PartNo}
 use Rattle.flash_steps.specs.Rules.{erase_checked, write_checked}
 use Rattle.flash_steps.specs.Parts.{steps_in, part_erase_steps, part_write_steps}
+use Rattle.flash_steps.specs.Steps.{erase_steps, write_steps}
 use Rattle.core_script.specs.declared.action.Action.{Action}
 use Rattle.core_script.specs.declared.action.Action.TheVariants.{Fetch, Mask, Irq, Map, Unmap, Write, Erase}
 use Rattle.bus_hub.specs.declared.entry.Act.{Act}
@@ -26,28 +27,31 @@ pub none_made : (items shown : List Did) → items ≡ shown → MakesSteps [] s
 none_made items shown is m = subst (λ (s : List Did). MakesSteps [] s) (sym is) m
 
 -- where it is refused there are no steps
-no_write : (rows : List Row) (label : List ℕ) (offset : ℕ) (bytes : List ℕ) (no : PartNo)
-    → write_checked rows label offset (length bytes) ≡ Err no
+no_write : (rows : List Row) (label : List ℕ) (offset : ℕ) (bytes : List ℕ) (refusal : PartNo)
+    → write_checked rows label offset (length bytes) ≡ Err refusal
     → part_write_steps rows label offset bytes ≡ []
 unfolding part_write_steps
-no_write rows label offset bytes no is = ap (λ (r : Result Row PartNo). steps_in r _) is
+no_write rows label offset bytes refusal is =
+    ap (λ (r : Result Row PartNo). steps_in r (λ row. write_steps (row.offset + offset) bytes)) is
 
-no_erase : (rows : List Row) (label : List ℕ) (offset len : ℕ) (no : PartNo)
-    → erase_checked rows label offset len ≡ Err no → part_erase_steps rows label offset len ≡ []
+no_erase : (rows : List Row) (label : List ℕ) (offset len : ℕ) (refusal : PartNo)
+    → erase_checked rows label offset len ≡ Err refusal
+    → part_erase_steps rows label offset len ≡ []
 unfolding part_erase_steps
-no_erase rows label offset len no is = ap (λ (r : Result Row PartNo). steps_in r _) is
+no_erase rows label offset len refusal is =
+    ap (λ (r : Result Row PartNo). steps_in r (λ row. erase_steps (row.offset + offset) len)) is
 
 -- a write or an erase, whose steps are none where it is refused
 written_makes : (k : ℕ) (regs : Regs) (checked : Result Row PartNo) (steps : List Step)
-    (items : List Did) → ((no : PartNo) → checked ≡ Err no → steps ≡ [])
+    (items : List Did) → ((refusal : PartNo) → checked ≡ Err refusal → steps ≡ [])
     → HasWritten k regs checked steps items → MakesSteps steps items
 written_makes k regs (Ok row) steps items none w =
     subst (λ (s : List Did). MakesSteps steps s) (sym w.is)
     (subst (λ (s : List Step). MakesSteps s (w.did ++ note k regs acts.Wrote)) (append-nil steps)
     (makes_then steps [] w.did (note k regs acts.Wrote) (follows_makes k regs steps w.did w.follows)
     (record { makes = λ o. refl })))
-written_makes k regs (Err no) steps items none w =
-    subst (λ (s : List Step). MakesSteps s items) (sym (none no refl))
+written_makes k regs (Err refusal) steps items none w =
+    subst (λ (s : List Step). MakesSteps s items) (sym (none refusal refl))
     (none_made items _ w (record { makes = λ o. refl }))
 
 pub left_makes : (rows : List Row) (k : ℕ) (regs : Regs) (action : Action) (items : List Did)
@@ -76,7 +80,7 @@ broken_makes : (k : ℕ) (regs : Regs) (why : NorFault) (checked : Result Row Pa
     (steps : List Step) (items : List Did) → BreaksOff k regs why checked steps items
     → MakesSome steps items
 broken_makes k regs why (Ok row) steps items b = stops_makes k regs why steps items b
-broken_makes k regs why (Err no) steps items b = absurd b
+broken_makes k regs why (Err refusal) steps items b = absurd b
 
 ended_makes : (rows : List Row) (why : NorFault) (k : ℕ) (regs : Regs) (action : Action)
     (items : List Did) → HasEnded rows why k regs action items
@@ -101,12 +105,12 @@ ended_makes rows why k regs (Erase label offset len) items e =
 mapped_regs : (regs shown : Regs) (answer : Result ℕ NoPages)
     → regs_by_act regs shown (mapped_act answer) ≡ regs
 mapped_regs regs shown (Ok at) = refl
-mapped_regs regs shown (Err no) = refl
+mapped_regs regs shown (Err refusal) = refl
 
 unmapped_regs : (regs shown : Regs) (at : ℕ) (answer : Result (Unit {0}) NotMapped)
     → regs_by_act regs shown (unmapped_act at answer) ≡ regs
 unmapped_regs regs shown at (Ok u) = refl
-unmapped_regs regs shown at (Err no) = refl
+unmapped_regs regs shown at (Err refusal) = refl
 
 written_regs : (k : ℕ) (regs : Regs) (checked : Result Row PartNo) (steps : List Step)
     (items : List Did) → HasWritten k regs checked steps items → regs_by regs items ≡ regs
@@ -114,7 +118,7 @@ written_regs k regs (Ok row) steps items w =
     ap (regs_by regs) w.is
     ∙ (regs_by-append regs w.did (note k regs acts.Wrote)
     ∙ follows_regs k regs regs steps w.did w.follows)
-written_regs k regs (Err no) steps items w = ap (regs_by regs) w
+written_regs k regs (Err refusal) steps items w = ap (regs_by regs) w
 
 -- the registers that an action leaves are those of its items
 pub left_regs : (rows : List Row) (k : ℕ) (regs : Regs) (action : Action) (items : List Did)
@@ -137,7 +141,7 @@ broken_regs : (k : ℕ) (regs : Regs) (why : NorFault) (checked : Result Row Par
     (steps : List Step) (items : List Did) → BreaksOff k regs why checked steps items
     → regs_by regs items ≡ regs
 broken_regs k regs why (Ok row) steps items b = stops_regs k regs regs why steps items b
-broken_regs k regs why (Err no) steps items b = absurd b
+broken_regs k regs why (Err refusal) steps items b = absurd b
 
 pub ended_regs : (rows : List Row) (why : NorFault) (k : ℕ) (regs : Regs) (action : Action)
     (items : List Did) → HasEnded rows why k regs action items

@@ -21,6 +21,16 @@ use Rattle.duo_run.proofs.ShareLemmas.{ended_regs, left_regs}
 use Rattle.duo_run.proofs.AskLemmas.{can_first, can_rest}
 use Rattle.duo_run.proofs.ActLemmas.{adds_keeps, adds_set, adds_then, keeps_adds}
 
+-- the share of one action and of those behind it
+joined : (rows : List Row) (k : ℕ) (regs : Regs) (action : Action) (later : List Action)
+    (r : Result (Unit {0}) NorFault) (items rest : List Did) → HasLeft rows k regs action items
+    → ShareFrom rows (k + 1) (regs_after regs action) later r rest
+    → ShareFrom rows k regs (action ∷ later) r (items ++ rest)
+joined rows k regs action later (Ok u) items rest x y =
+    record { items = items; rest = rest; is = refl; left = x; on = y }
+joined rows k regs action later (Err why) items rest x y =
+    inr (record { items = items; rest = rest; is = refl; left = x; on = y })
+
 module _ {B : Type 0} where
   -- a core that served its gate behind an action
   pub acted_keeps : (rows : List Row) (k : ℕ) (action : Action) (r : Result (Unit {0}) NorFault)
@@ -42,16 +52,6 @@ module _ {B : Type 0} where
     };
     share = refl;
   }
-
-  -- the share of one action and of those behind it
-  joined : (rows : List Row) (k : ℕ) (regs : Regs) (action : Action) (later : List Action)
-      (r : Result (Unit {0}) NorFault) (items rest : List Did) → HasLeft rows k regs action items
-      → ShareFrom rows (k + 1) (regs_after regs action) later r rest
-      → ShareFrom rows k regs (action ∷ later) r (items ++ rest)
-  joined rows k regs action later (Ok u) items rest x y =
-      record { items = items; rest = rest; is = refl; left = x; on = y }
-  joined rows k regs action later (Err why) items rest x y =
-      inr (record { items = items; rest = rest; is = refl; left = x; on = y })
 
   -- an action, and those behind it
   worked_more : (rows : List Row) (k : ℕ) (action : Action) (later : List Action)
@@ -93,7 +93,15 @@ drop_at (x ∷ xs) zero action is =
     let same : x ≡ action = cc in ap (λ (a : Action). a ∷ xs) same
 drop_at (x ∷ xs) (suc i) action is = drop_at xs i action is
 
--- so many actions of a script were done: those to come can be done, and whatever they come to, all of it does
+-- behind the last one there is none
+pub dropped : (script : List Action) (i : ℕ) → length script ≤ i → drop i script ≡ []
+dropped [] zero behind = refl
+dropped [] (suc i) behind = refl
+dropped (x ∷ xs) zero behind = absurd (omega arith)
+dropped (x ∷ xs) (suc i) behind = dropped xs i (omega arith)
+
+-- so many actions of a script were done: those to come can be done, and whatever they come to, the
+-- whole script does
 pub record IsAt {S K P : Type 0} (part : K → ℕ → P) (grants : P → Step → Type 0)
     (moved : P → Step → P) (rows : List Row) (script : List Action) (i : ℕ)
     (o o' : Own (Base S K) Did) : Type 0 where
@@ -145,11 +153,11 @@ module _ {S K P : Type 0} (part : K → ℕ → P) (grants : P → Step → Type
       (sym (drop_at script i action is))
       (worked_stop rows (i + 1) action (drop (suc i) script) why o' a x))
 
-  pub at_stop : (rows : List Row) (script : List Action) (i : ℕ) (action : Action) (no : StepNo)
+  pub at_stop : (rows : List Row) (script : List Action) (i : ℕ) (action : Action) (refusal : StepNo)
       (o o' a : Own (Base S K) Did) → slice_get script i ≡ Some action
       → IsAt part grants moved rows script i o o'
-      → HasActed rows (i + 1) action (fault_of (Err no)) o' a
-      → HasWorked rows script (fault_of (Err no)) o a
+      → HasActed rows (i + 1) action (fault_of (Err refusal)) o' a
+      → HasWorked rows script (fault_of (Err refusal)) o a
   at_stop rows script i action Device o o' a is at x =
       stopped rows script i action _ o o' a is at x
   at_stop rows script i action Cut o o' a is at x =

@@ -27,4 +27,4 @@ end_act (Err ops.Cut) = Err steps.Cut
 abbrev pub NotesEnd : {B : Type 0} → ℕ → Result Act StepNo → Result (Unit {0}) StepNo
     → Own B Did → Own B Did → Type 0
 NotesEnd k (Ok act) r o o' = (r ≡ Ok tt) × Adds (note k o.regs act) o o'
-NotesEnd k (Err no) r o o' = (r ≡ Err no) × (o' ≡ o)
+NotesEnd k (Err refusal) r o o' = (r ≡ Err refusal) × (o' ≡ o)

@@ -7,7 +7,8 @@ use Rattle.bus_hub.specs.declared.did.Did.{Did}
 use Rattle.bus_hub.specs.declared.journal.Room.{Room}
 use Rattle.cache_gate.specs.Own.{Own, OnBase, HasRoom}
 
--- the core is one of these words and has the registers at reset, this room, and a flash of so many bytes
+-- the core is one of these words and has the registers at reset, this room, and a flash of so many
+-- bytes
 pub record IsFreshIn {S K : Type 0} (words : TableId) (c : ℕ) (room : Room) (size : ℕ)
     (o : Own (Base S K) Did) : Type 0 where
   pub table : o.table ≡ words

@@ -92,7 +92,7 @@ pub record IsMaskedOut (k : ℕ) (regs : Regs) (at len : ℕ) (items : List Did)
 -- what is noted of pages that were asked for
 abbrev pub mapped_act : Result ℕ NoPages → Act
 mapped_act (Ok at) = acts.Mapped at
-mapped_act (Err no) = acts.Refused whys.NoPages
+mapped_act (Err refusal) = acts.Refused whys.NoPages
 
 -- pages were asked for, and that is noted which the map answered
 pub record IsMapped (k : ℕ) (regs : Regs) (space : Space) (page n : ℕ) (items : List Did)
@@ -103,7 +103,7 @@ pub record IsMapped (k : ℕ) (regs : Regs) (space : Space) (page n : ℕ) (item
 -- what is noted of a run of pages that was to be freed
 abbrev pub unmapped_act : ℕ → Result (Unit {0}) NotMapped → Act
 unmapped_act at (Ok _) = acts.Unmapped at
-unmapped_act at (Err no) = acts.Refused whys.NotMapped
+unmapped_act at (Err refusal) = acts.Refused whys.NotMapped
 
 -- a run of pages was to be freed, and that is noted which the map answered
 pub record IsUnmapped (k : ℕ) (regs : Regs) (at : ℕ) (items : List Did) : Type 0 where
@@ -119,7 +119,7 @@ pub record IsWritten (k : ℕ) (regs : Regs) (steps : List Step) (items : List D
 -- a write or an erase of a partition, by whether it may be changed so
 abbrev pub HasWritten : ℕ → Regs → Result Row PartNo → List Step → List Did → Type 0
 HasWritten k regs (Ok row) steps items = IsWritten k regs steps items
-HasWritten k regs (Err no) steps items = items ≡ refused k regs (why_of no)
+HasWritten k regs (Err refusal) steps items = items ≡ refused k regs (why_of refusal)
 
 -- the items of an action of this number, begun with these registers, in which the device did not
 -- refuse
@@ -148,7 +148,7 @@ pub record IsFetchEnd (why : NorFault) (regs : Regs) (at : ℕ) (items : List Di
 -- steps was made, and the next one was not begun, or broken off
 abbrev pub BreaksOff : ℕ → Regs → NorFault → Result Row PartNo → List Step → List Did → Type 0
 BreaksOff k regs why (Ok row) steps items = Stops k regs why (makes steps) items
-BreaksOff k regs why (Err no) steps items = ⊥
+BreaksOff k regs why (Err refusal) steps items = ⊥
 
 -- the items of an action that came to the device, which refused: of a fetch, a write or an erase
 abbrev pub HasEnded : List Row → NorFault → ℕ → Regs → Action → List Did → Type 0
@@ -195,13 +195,15 @@ HasStopped rows why k regs (action ∷ later) share =
     (HasStopped rows why (k + 1) (regs_after regs action) later) share
 
 -- the share of a script, of which the first action has this number, by whether the device ended it
-abbrev pub ShareFrom : List Row → ℕ → Regs → List Action → Result (Unit {0}) NorFault → List Did → Type 0
+abbrev pub ShareFrom : List Row → ℕ → Regs → List Action → Result (Unit {0}) NorFault → List Did
+    → Type 0
 ShareFrom rows k regs script (Ok _) share = HasDone rows k regs script share
 ShareFrom rows k regs script (Err why) share = HasStopped rows why k regs script share
 
--- the share of the second core, which began with these registers. Its first action has the number 1; how often it
--- was parked changes nothing
-abbrev pub WorkerShare : List Row → Regs → List Action → Result (Unit {0}) NorFault → List Did → Type 0
+-- the share of the second core, which began with these registers. Its first action has the number 1;
+-- how often it was parked changes nothing
+abbrev pub WorkerShare : List Row → Regs → List Action → Result (Unit {0}) NorFault → List Did
+    → Type 0
 WorkerShare rows regs script end share = ShareFrom rows 1 regs script end share
 
 -- ---- the registers that a share leaves

@@ -43,8 +43,8 @@ pub record HasActed {B : Type 0} (rows : List Row) (k : ℕ) (action : Action)
   pub adds : Adds items (set_to o (regs_after o.regs action)) o'
   pub acted : Acted rows k o.regs action r items
 
--- the core worked on a script, of which the first action has this number: the items that it added to
--- its share are that of the script, and its registers are those of its last Set
+-- the core worked on a script, of which the first action has this number: the items that it added
+-- to its share are that of the script, and its registers are those of its last Set
 pub record HasWorkedFrom {B : Type 0} (rows : List Row) (k : ℕ) (script : List Action)
     (r : Result (Unit {0}) NorFault) (o o' : Own B Did) : Type 0 where
   pub items : List Did
@@ -52,6 +52,6 @@ pub record HasWorkedFrom {B : Type 0} (rows : List Row) (k : ℕ) (script : List
   pub share : ShareFrom rows k o.regs script r items
 
 -- the same of a whole script
-abbrev pub HasWorked : {B : Type 0} → List Row → List Action → Result (Unit {0}) NorFault → Own B Did
-    → Own B Did → Type 0
+abbrev pub HasWorked : {B : Type 0} → List Row → List Action → Result (Unit {0}) NorFault
+    → Own B Did → Own B Did → Type 0
 HasWorked rows script r o o' = HasWorkedFrom rows 1 script r o o'

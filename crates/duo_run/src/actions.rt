@@ -123,7 +123,9 @@ fn unmapped(at: u32, answer: Result<(), NotMapped>) -> Act
 {
     match answer {
         Ok(()) => Act::Unmapped { at },
-        Err(_) => Act::Refused { why: Why::NotMapped },
+        Err(_) => Act::Refused {
+            why: Why::NotMapped,
+        },
     }
 }
 
@@ -189,8 +191,10 @@ fn write<'w, R: Wait, D: Crash, K: Duty>(
     offset: u32,
     bytes: &Page,
 ) -> (Core<'w, D, K>, Result<(), StepNo>)
-    requires can { CanAct K.part K.grants K.moved table.now (Write label.now offset bytes.now) core }
-    ensures { HasActed table.now k (Write label.now offset bytes.now) (fault_of result.1) core.entry result.0 }
+    requires can { CanAct K.part K.grants K.moved table.now (Write label.now offset bytes.now)
+        core }
+    ensures { HasActed table.now k (Write label.now offset bytes.now) (fault_of result.1)
+        core.entry result.0 }
 {
     let (core, end) = part_write(rt, core, k, table, label.as_slice(), offset, bytes.bytes());
     note_end(rt, core, k, end)
@@ -207,14 +211,15 @@ fn erase<'w, R: Wait, D: Crash, K: Duty>(
     len: u32,
 ) -> (Core<'w, D, K>, Result<(), StepNo>)
     requires can { CanAct K.part K.grants K.moved table.now (Erase label.now offset len) core }
-    ensures { HasActed table.now k (Erase label.now offset len) (fault_of result.1) core.entry result.0 }
+    ensures { HasActed table.now k (Erase label.now offset len) (fault_of result.1)
+        core.entry result.0 }
 {
     let (core, end) = part_erase(rt, core, k, table, label.as_slice(), offset, len);
     note_end(rt, core, k, end)
 }
 
-/// Does an action of the script, under its number. What the core refuses is noted; an answer of the device
-/// that ended it is handed on.
+/// Does an action of the script, under its number. What the core refuses is noted; an answer by which
+/// the device ended it is handed on.
 pub(crate) fn act<'w, R: Wait, D: Crash, K: Duty>(
     rt: &R,
     core: Core<'w, D, K>,

@@ -12,8 +12,8 @@ ghost use Rattle.bus_hub.specs.declared.did.Did.{Did};
 ghost use Rattle.bus_hub.specs.Shares.{made};
 ghost use Rattle.duo_run.specs.Worker.{IsFirstPart, WorkerShare, regs_at, regs_by, worker_steps};
 
-/// A share that the device did not end made the steps of the script (`made`), and one that it ended a
-/// first part of them (`stopped`). Behind a whole script the registers are those of its actions
+/// A share that the device did not end made the steps of the script (`made`), and one that it ended
+/// a first part of them (`stopped`). Behind a whole script the registers are those of its actions
 /// (`registers`). The steps of every script lie in partitions that may be changed (`inside`).
 pub fn laws_of_workers()
     ensures made { (rows : List Row) (regs : Regs) (script : List Action) (share : List Did)

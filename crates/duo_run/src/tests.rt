@@ -24,6 +24,7 @@ const SIZE: usize = 1_048_576;
 const DATA: u32 = 0x3F40_0000;
 
 /// Counts the calls that come in order: before and behind the first action, and so on.
+#[derive(Drop)]
 struct Counts {
     calls: Cell<u32>,
 }
@@ -48,7 +49,8 @@ fn erased(alloc: Global, size: usize) -> Result<Vec<u8>, AllocError>
     Ok(vec![in alloc; 0xFF; size]?)
 }
 
-/// Gates over that flash, whose second page is the first one of the data space, with room for core 1.
+/// Gates over that flash, whose second page is the first one of the data space, with room for
+/// core 1.
 fn gates(
     alloc: Global,
     room: Room,
@@ -80,14 +82,9 @@ fn gates(
     open(alloc, bus).ok()
 }
 
-/// The journal that a script leaves, whether the device let it come to its end, and how many calls of
-/// the pace came in order.
-fn lone<R: Wait>(
-    rt: &R,
-    alloc: Global,
-    text: &[u8],
-    rows: &[Row],
-) -> Option<(Journal, bool, u32)>
+/// The journal that a script leaves, whether the device let it come to its end, and how many calls
+/// of the pace came in order.
+fn lone<R: Wait>(rt: &R, alloc: Global, text: &[u8], rows: &[Row]) -> Option<(Journal, bool, u32)>
     requires few { length rows.now ≤ 94 }
 {
     let Ok(script) = Script::read(alloc, text) else {
@@ -142,13 +139,37 @@ fn a_script_of_fetches_leaves_its_entries(rt: HostRuntime) -> Result<(), Fail> {
         fetch 0x400D0020 4\nmask 3\nfetch 0x400D0020 4\nfetch 0x3F410000 1\n";
     let (journal, whole, calls) = lone(&rt, rt.alloc(), text, &[]).ok_or("memory")?;
     let want = [
-        shown(1, 3, Act::Fetch { at: 0x3F40_0020, start: 0, len: 4 }),
+        shown(
+            1,
+            3,
+            Act::Fetch {
+                at: 0x3F40_0020,
+                start: 0,
+                len: 4,
+            },
+        ),
         shown(2, 1, Act::Set),
-        shown(3, 1, Act::Fetch { at: 0x3F40_0020, start: 4, len: 4 }),
+        shown(
+            3,
+            1,
+            Act::Fetch {
+                at: 0x3F40_0020,
+                start: 4,
+                len: 4,
+            },
+        ),
         shown(4, 1, Act::Mapped { at: 0x400D_0000 }),
         shown(5, 1, Act::Refused { why: Why::Masked }),
         shown(6, 3, Act::Set),
-        shown(7, 3, Act::Fetch { at: 0x400D_0020, start: 8, len: 4 }),
+        shown(
+            7,
+            3,
+            Act::Fetch {
+                at: 0x400D_0020,
+                start: 8,
+                len: 4,
+            },
+        ),
         shown(8, 3, Act::Refused { why: Why::Unmapped }),
     ];
     assert_eq!(rt; journal.entries(), want.as_slice(), "entries");
@@ -162,20 +183,52 @@ fn a_script_of_writes_leaves_its_entries(rt: HostRuntime) -> Result<(), Fail> {
     let text = b"write nvs 0x10 AB\nerase nvs 0x1000 0x1000\nerase nvs 1 0x1000\n\
         write none 0 00\nwrite otadata 0 00\nunmap 0x3F400000\n";
     let (journal, whole, _calls) = lone(&rt, rt.alloc(), text, &ROWS).ok_or("memory")?;
-    let done = Act::Close {
-        end: StepEnd::Done,
-    };
+    let done = Act::Close { end: StepEnd::Done };
     let want = [
-        shown(1, 0, Act::Open { erase: false, at: 0x9010, len: 1 }),
+        shown(
+            1,
+            0,
+            Act::Open {
+                erase: false,
+                at: 0x9010,
+                len: 1,
+            },
+        ),
         shown(1, 0, done),
         shown(1, 3, Act::Wrote),
-        shown(2, 0, Act::Open { erase: true, at: 0xA000, len: 4096 }),
+        shown(
+            2,
+            0,
+            Act::Open {
+                erase: true,
+                at: 0xA000,
+                len: 4096,
+            },
+        ),
         shown(2, 0, done),
         shown(2, 3, Act::Wrote),
-        shown(3, 3, Act::Refused { why: Why::Unaligned }),
+        shown(
+            3,
+            3,
+            Act::Refused {
+                why: Why::Unaligned,
+            },
+        ),
         shown(4, 3, Act::Refused { why: Why::NoLabel }),
-        shown(5, 3, Act::Refused { why: Why::Dangerous }),
-        shown(6, 3, Act::Refused { why: Why::NotMapped }),
+        shown(
+            5,
+            3,
+            Act::Refused {
+                why: Why::Dangerous,
+            },
+        ),
+        shown(
+            6,
+            3,
+            Act::Refused {
+                why: Why::NotMapped,
+            },
+        ),
     ];
     assert_eq!(rt; journal.entries(), want.as_slice(), "entries");
     assert!(rt; whole, "to its end");
