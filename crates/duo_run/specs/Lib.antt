@@ -4,3 +4,4 @@ pub mod Works
 pub mod Pages
 pub mod Ends
 pub mod Fresh
+pub mod Driving

@@ -2,8 +2,9 @@
 #![tactic(auto)]
 
 mod actions;
-mod pages;
+mod driver;
 mod laws;
+mod pages;
 mod room;
 #[cfg(test)]
 mod tests;
