@@ -5,3 +5,4 @@ pub mod Pages
 pub mod Ends
 pub mod Fresh
 pub mod Driving
+pub mod Legs

@@ -3,6 +3,7 @@
 
 mod actions;
 mod driver;
+mod duo;
 mod laws;
 mod pages;
 mod room;
@@ -10,4 +11,5 @@ mod room;
 mod tests;
 mod worker;
 
+pub use duo::Duo;
 pub use laws::laws_of_workers;
