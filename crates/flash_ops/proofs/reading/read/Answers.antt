@@ -1,7 +1,7 @@
-use Rattle.std.proofs.Common.{◌≡◌, ◌+◌, ◌-◌, ◌≤◌, ◌<◌, ◌++◌, ◌∙◌, ap, sym, subst, refl, arith, ℕ, List, [], ◌∷◌, length, take, drop, length-take, length-drop, Result, Ok, Err}
+use Rattle.std.proofs.Common.{◌≡◌, ◌+◌, ◌-◌, ◌≤◌, ◌<◌, ◌++◌, ◌∙◌, ap, sym, subst, refl, arith, ℕ, List, [], ◌∷◌, length, take, drop, length-take, length-drop, Result, Ok, Err, OnOk}
 use Rattle.std.proofs.lemmas.List.{take_all}
 use Rattle.std.proofs.lemmas.Slice.{take-put_mid}
-use borrow.Rule.Slice.PartMut.{put_mid}
+use borrow.Rule.Slice.PartMut.{mid_of, mid_len}
 use Rattle.nor_device.specs.declared.nor.NorFault.{NorFault}
 use Rattle.cache_gate.specs.Own.{Keeps}
 use Rattle.flash_ops.specs.Moves.{Ask, HasRun, read_moves}
@@ -62,16 +62,39 @@ loop-done-preserved g c =
     let made : (k : ℕ) → HasRun k (Ask ∷ []) (Ok tt) core next = λ k.
     subst (λ (z : Result (Unit {0}) NorFault). HasRun k (Ask ∷ []) z core next) c.in_default.is
     (c.read_period-next.ensures.ran k) in
-    let size : length read ≡ piece = ? in
+    let part = mid_of done (piece + done - done) out in
+    let size : length read ≡ piece =
+    let e : length read ≡ length part = c.read_period-next.ensures.length in
+    let f = mid_len done (piece + done) out (omega (arith, c.min.ensures)) in
+    omega arith in
     let front : length (take done out) ≡ done =
     let e = length-take done out in omega arith in
+    let place : c.args.at + done ≡ c.args.at + length (take done out) = omega arith in
+    let later : len - piece ≡ length c.args.out.now - (piece + done) = omega arith in
+    let stands = StandsBy n.bytes n.off n.steps n.faults n.setting n.may_end n.may_tear
+    n.may_refuse n.must_refuse d.part d.grants d.after d.good in
     record {
       within = omega (arith, c.min.ensures);
       kept = keeps_then c.args.core core next inv.kept (asks_kept 0 1 core next (made 0));
       left = λ k. left_then k (read_moves (length c.args.out.now)) (read_moves len) (Ask ∷ [])
-          (read_moves (length c.args.out.now - (piece + done))) c.args.core core next ?
+          (read_moves (length c.args.out.now - (piece + done))) c.args.core core next
+          (read_next len piece (omega arith) (omega (arith, c.min.ensures))
+          (λ few. omega (arith, c.min.ensures)) (λ many. omega (arith, c.min.ensures))
+          ∙ ap (λ (m : ℕ). Ask ∷ read_moves m) later)
           (inv.left k) (made k);
-      bytes = ?;
+      bytes = subst (λ (l : List ℕ). AreBytesOf stands (λ h. n.bytes h.dev) c.args.core.base
+          c.args.core.core c.args.core.share c.args.at l)
+          (sym (take-put_mid done (piece + done - done) out read (piece + done) (omega arith)
+          (omega arith)))
+          (bytes_then stands (λ h. n.bytes h.dev) c.args.core.base c.args.core.core
+          c.args.core.share c.args.at (take done out) read inv.bytes
+          (subst (λ (m : ℕ). AreBytesOf stands (λ h. n.bytes h.dev) c.args.core.base
+          c.args.core.core c.args.core.share m read) place
+          (bytes_kept n.bytes n.off n.steps n.faults n.setting n.may_end n.may_tear n.may_refuse
+          n.must_refuse d.part d.grants d.after d.good c.args.core core (c.args.at + done) read
+          inv.kept (subst (λ (z : Result (Unit {0}) NorFault). OnOk z (AreBytesOf stands
+          (λ h. n.bytes h.dev) core.base core.core core.share (c.args.at + done) read))
+          c.in_default.is c.read_period-next.ensures.bytes))));
     }
 
 -- nothing is left
