@@ -6,3 +6,4 @@ pub mod ViewLemmas
 pub mod OpeningLemmas
 pub mod BootLemmas
 pub mod ReadLemmas
+pub mod MomentLemmas
