@@ -81,17 +81,24 @@ module _ {S : Type 0} (layout : Places) (purpose : Purpose) where
       subst (λ (l : List Step). Drives layout purpose l o) same d
 
   -- a core may make the next steps of its duty
+  pub drives_may : (done steps rest : List Step) (o : Own (Base S Course) Did)
+      → Drives layout purpose done o → steps_for layout purpose ≡ done ++ (steps ++ rest)
+      → MayMakeAll part_of Grants part_after o.base o.core o.share steps
+  drives_may done steps rest o d split =
+      subst (λ (b : Option (Base S Course)).
+      MayMakeAll part_of Grants part_after b o.core o.share steps) (sym d.base_is)
+      (driver_may d.base o.core o.share done steps rest
+      (sym (ap (λ (c : Course). c.driver) d.duty))
+      (ap (λ (c : Course). c.rest) d.duty ∙ split) d.made_is)
+
+  -- so it can make moves of these steps
   pub drives_can : (done : List Step) (ms : List Move) (rest : List Step) (probe : Option ℕ)
       (o : Own (Base S Course) Did) → Drives layout purpose done o
       → steps_for layout purpose ≡ done ++ (steps_of ms ++ rest)
       → HasRoomFor o.base o.core o.share ms → CanLook o.base o.regs probe
       → CanRun part_of Grants part_after ms probe o
   drives_can done ms rest probe o d split room look = record {
-    may = subst (λ (b : Option (Base S Course)).
-        MayMakeAll part_of Grants part_after b o.core o.share (steps_of ms)) (sym d.base_is)
-        (driver_may d.base o.core o.share done (steps_of ms) rest
-        (sym (ap (λ (c : Course). c.driver) d.duty))
-        (ap (λ (c : Course). c.rest) d.duty ∙ split) d.made_is);
+    may = drives_may done (steps_of ms) rest o d split;
     room = room;
     look = look;
   }

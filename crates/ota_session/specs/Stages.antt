@@ -161,7 +161,7 @@ module _ {S : Type 0} where
   -- and the image is whole within the slot
   pub record IsVerified (v : Verified (Base S Course)) : Type 0 where
     pub written : IsWritten v.target v.core
-    pub some : image_of v.core.base ≢ []
+    pub marked : take 1 (image_of v.core.base) ≡ 0xE9 ∷ []
     pub whole : bad v.target.size (image_of v.core.base) ≡ None
 
   -- the bytes are the next ones of the image: at least one, as many as are left or whole pages

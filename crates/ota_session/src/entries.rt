@@ -24,25 +24,25 @@ pub(crate) fn rewrite_entry<'w, 'a, R: Wait, D: Crash, P: Pace>(
     core: Core<'w, D, UpdateDuty<'a>>,
     beat: &mut Beat<'_, P>,
     otadata: u32,
-    rewrite: &Rewrite,
+    change: &Rewrite,
 ) -> (Core<'w, D, UpdateDuty<'a>>, Result<(), StepNo>)
-    requires two { rewrite.now.sector < 2 }
+    requires two { change.now.sector < 2 }
     requires aligned { otadata % 4096 ≡ 0 }
     requires inside { IsInside core.base (otadata + 8192) }
     requires small { otadata + 8192 < 2 ^ 32 }
     requires may { MayMakeAll part_of Grants part_after core.base core.core core.share
-        (rewrite otadata rewrite.now) }
+        (rewrite otadata change.now) }
     requires room { HasRoomFor core.base core.core core.share
-        (entry_moves beat.old.probe otadata rewrite.now) }
+        (entry_moves beat.old.probe otadata change.now) }
     requires look { CanLook core.base core.regs beat.old.probe }
-    ensures ran { HasRun 0 (entry_moves beat.old.probe otadata rewrite.now) (fault_of result.1)
+    ensures ran { HasRun 0 (entry_moves beat.old.probe otadata change.now) (fault_of result.1)
         core.entry result.0 }
     ensures probe { beat.new.probe ≡ beat.old.probe }
     ensures pace { beat.new.pace ≡ beat.old.pace }
 {
-    let at = otadata + SECTOR_SIZE * u32::from(rewrite.sector);
+    let at = otadata + SECTOR_SIZE * u32::from(change.sector);
     let mut bytes = [0; 32];
-    rewrite.entry.put(&mut bytes);
+    change.entry.put(&mut bytes);
     let (core, erased) = erase(rt, core, beat, 0, at, SECTOR_SIZE);
     if let Err(no) = erased {
         return (core, Err(no));

@@ -1,0 +1,144 @@
+-- The entry of a session, and of a confirmation: what its rewrite asks.
+use Rattle.std.proofs.Common.{◌≡◌, ◌≢◌, ℕ, ◌+◌, ◌*◌, ◌%◌, ◌^◌, ◌<◌, ◌≤◌, List, [], ◌∷◌, ◌++◌, length, take, Option, Some, None, IfSome, Result, Ok, Err, refl, sym, ap, ◌∙◌, subst, arith, append-nil}
+use Rattle.std.specs.Prelude.{slice_get}
+use Rattle.nor_device.specs.declared.step.Step.{Step}
+use Rattle.partition_table.specs.declared.row.Row.{Row}
+use Rattle.partition_table.specs.Layout.{IsPlaced, Places}
+use Rattle.otadata.proofs.ChoiceLemmas.{active-lt}
+use Rattle.boot_select.specs.Boots.{entries_in}
+use Rattle.rollback.specs.declared.rewrite.Rewrite.{Rewrite}
+use Rattle.rollback.specs.Rewrite.{restated}
+use Rattle.image_verify.specs.declared.bad.BadImage.{BadImage}
+use Rattle.image_verify.specs.Bad.{bad}
+use Rattle.boot_run.specs.declared.aims.Aim.{Aim}
+use Rattle.boot_run.specs.Rewriting.{rewrite}
+use Rattle.bus_hub.specs.declared.did.Base.{Base}
+use Rattle.bus_hub.specs.declared.did.Did.{Did}
+use Rattle.cache_gate.specs.Own.{IsInside, Own}
+use Rattle.update_steps.specs.Driver.{data_steps, driver_steps, next_rewrite, sealed_steps}
+use Rattle.update_steps.proofs.SessionLemmas.{sector_two}
+use Rattle.flash_ops.specs.Asked.{HasRoomFor, MayMakeAll}
+use Rattle.flash_ops.specs.declared.refusal.StepNo.{StepNo}
+use Rattle.flash_ops.specs.Told.{fault_of}
+use Rattle.flash_ops.specs.Moves.{HasRun}
+use Rattle.ota_session.specs.Course.{Confirm, Confirms, Course, Grants, Install, IsFor, IsMadeFor, Purpose, course_from, part_after, part_of, steps_for}
+use Rattle.ota_session.specs.GoodLaws.{placed}
+use Rattle.ota_session.specs.declared.target.Target.{Target}
+use Rattle.ota_session.specs.Stages.{Drives, IsToConfirm, IsVerified, IsWritten, Verified, confirm_moves, entry_moves, image_of, target_of}
+use Rattle.ota_session.specs.SessionTold.{cause_of}
+use Rattle.ota_session.proofs.MoveLemmas.{data_front}
+use Rattle.ota_session.proofs.StageLemmas.{drives_inside, drives_may, image_is, installs, ran_err, ran_ok}
+
+-- what the rewrite of an entry asks
+pub record CanAnnounce {S : Type 0} (otadata : ℕ) (write : Rewrite) (o : Own (Base S Course) Did)
+    : Type 0 where
+  pub two : write.sector < 2
+  pub aligned : otadata % 4096 ≡ 0
+  pub inside : IsInside o.base (otadata + 8192)
+  pub small : otadata + 8192 < 2 ^ 32
+  pub may : MayMakeAll part_of Grants part_after o.base o.core o.share (rewrite otadata write)
+
+module _ {S : Type 0} (layout : Places) (purpose : Purpose) (done : List Step) (write : Rewrite)
+    (o : Own (Base S Course) Did) (d : Drives layout purpose done o) (two : write.sector < 2)
+    (split : steps_for layout purpose ≡ done ++ rewrite layout.otadata write) where
+  lies : IsPlaced layout (length d.base.flash)
+  lies = subst (λ (c : Course). IsPlaced c.layout (length d.base.flash)) d.duty
+      (placed d.base.flash d.base.duty d.made_for)
+
+  pub announces : CanAnnounce layout.otadata write o
+  announces =
+      let inside = lies.inside in
+      let small = d.small in
+      record {
+        two = two;
+        aligned = lies.aligned;
+        inside = drives_inside layout purpose done (layout.otadata + 8192) o d inside;
+        small = omega arith;
+        may = drives_may layout purpose done (rewrite layout.otadata write) [] o d
+            (split ∙ ap (λ (l : List Step). done ++ l) (sym (append-nil (rewrite layout.otadata write))));
+      }
+
+-- ---- of a confirmation
+
+pub can_confirm : {S : Type 0} (layout : Places) (write : Rewrite) (o : Own (Base S Course) Did)
+    → IsToConfirm layout write o → CanAnnounce layout.otadata write o
+can_confirm layout write o to =
+    let d = to.drives in
+    let es = entries_in layout d.base.flash in
+    let confirms : Confirms layout d.base.flash write =
+    subst (λ (c : Course). IsFor c.layout d.base.flash c.purpose) d.duty d.made_for.purpose in
+    let below : confirms.sector < 2 = subst (λ (o : Option ℕ). IfSome o (λ number. number < 2))
+    confirms.active (active-lt (es 0) (es 1)) in
+    let same : write.sector ≡ confirms.sector = ap (λ (w : Rewrite). w.sector) confirms.is in
+    announces layout (Confirm write) [] write o d (omega arith) refl
+
+-- the same where the place of the OTA data was read before
+module _ {S : Type 0} (probe : Option ℕ) (otadata : ℕ) (layout : Places) (write : Rewrite)
+    (o : Own (Base S Course) Did) (same : otadata ≡ layout.otadata) where
+  pub can_confirm_at : IsToConfirm layout write o → CanAnnounce otadata write o
+  can_confirm_at to =
+      subst (λ (n : ℕ). CanAnnounce n write o) (sym same) (can_confirm layout write o to)
+
+  pub room_at : HasRoomFor o.base o.core o.share (confirm_moves layout write probe)
+      → HasRoomFor o.base o.core o.share (entry_moves probe otadata write)
+  room_at room =
+      subst (λ (n : ℕ). HasRoomFor o.base o.core o.share (entry_moves probe n write)) (sym same) room
+
+  module _ (p : Own (Base S Course) Did) (r : Result (Unit {0}) StepNo)
+      (run : HasRun 0 (entry_moves probe otadata write) (fault_of r) o p) where
+    pub confirmed_at : (u : Unit {0}) → r ≡ Ok u
+        → HasRun 0 (confirm_moves layout write probe) (Ok tt) o p
+    confirmed_at u fine = subst (λ (n : ℕ). HasRun 0 (entry_moves probe n write) (Ok tt) o p) same
+        (ran_ok 0 (entry_moves probe otadata write) r u o p fine run)
+
+    pub not_confirmed_at : (why : StepNo) → r ≡ Err why
+        → HasRun 0 (confirm_moves layout write probe) (Err (cause_of why)) o p
+    not_confirmed_at why is =
+        subst (λ (n : ℕ). HasRun 0 (entry_moves probe n write) (Err (cause_of why)) o p) same
+        (ran_err 0 (entry_moves probe otadata write) r why o p is run)
+
+-- ---- of a session
+
+pub can_seal : {S : Type 0} (v : Verified (Base S Course)) → IsVerified v
+    → CanAnnounce v.target.otadata v.target.next v.core
+can_seal {S} v is =
+    let w = is.written in
+    let d = w.drives in
+    let done = data_steps w.row.offset w.image in
+    let same = image_is w.layout w.aim w.image w.row w.row_is done v.core d in
+    let opens = (installs w.layout w.aim w.image w.row w.row_is done v.core d).opens in
+    let entry = rewrite w.layout.otadata (next_rewrite w.aim) in
+    let size : v.target.size ≡ w.row.size = ap (λ (t : Target). t.size) w.target_is in
+    let whole : bad w.row.size w.image ≡ None =
+    sym (λ i. bad (size i) (same i)) ∙ is.whole in
+    let marked : take 1 w.image ≡ 0xE9 ∷ [] =
+    ap (λ (l : List ℕ). take 1 l) (sym same) ∙ is.marked in
+    let split : driver_steps w.layout w.aim w.image ≡ done ++ entry =
+    data_front w.layout w.aim w.row w.image w.row_is marked
+    ∙ ap (λ (found : Option BadImage). done ++ sealed_steps found [] entry) whole in
+    subst (λ (t : Target). CanAnnounce t.otadata t.next v.core) (sym w.target_is)
+    (announces w.layout (Install w.aim w.image) done (next_rewrite w.aim) v.core d
+    (sector_two w.layout d.base.flash w.aim
+    (installs w.layout w.aim w.image w.row w.row_is done v.core d).old w.image opens) split)
+
+-- the same of a session that is taken apart
+pub can_seal_at : {S : Type 0} (v self : Verified (Base S Course)) → v ≡ self → IsVerified self
+    → CanAnnounce v.target.otadata v.target.next v.core
+can_seal_at {S} v self same is =
+    can_seal v (subst (λ (x : Verified (Base S Course)). IsVerified x) (sym same) is)
+
+module _ {S : Type 0} (probe : Option ℕ) (v self : Verified (Base S Course)) (same : v ≡ self)
+    (p : Own (Base S Course) Did) (r : Result (Unit {0}) StepNo)
+    (run : HasRun 0 (entry_moves probe v.target.otadata v.target.next) (fault_of r) v.core p) where
+  pub sealed_at : (u : Unit {0}) → r ≡ Ok u
+      → HasRun 0 (entry_moves probe self.target.otadata self.target.next) (Ok tt) self.core p
+  sealed_at u fine = subst (λ (x : Verified (Base S Course)).
+      HasRun 0 (entry_moves probe x.target.otadata x.target.next) (Ok tt) x.core p) same
+      (ran_ok 0 (entry_moves probe v.target.otadata v.target.next) r u v.core p fine run)
+
+  pub not_sealed_at : (why : StepNo) → r ≡ Err why
+      → HasRun 0 (entry_moves probe self.target.otadata self.target.next) (Err (cause_of why))
+      self.core p
+  not_sealed_at why is = subst (λ (x : Verified (Base S Course)).
+      HasRun 0 (entry_moves probe x.target.otadata x.target.next) (Err (cause_of why)) x.core p)
+      same (ran_err 0 (entry_moves probe v.target.otadata v.target.next) r why v.core p is run)
