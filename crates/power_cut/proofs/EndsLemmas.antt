@@ -200,103 +200,103 @@ made_rises set steps count now old new (Err why) small missed = at missed.rest m
         let is = broken.counted in let a = rises.0 in let b = rises.1 in omega arith
 
 module _ (layout : Places) (old new : CutDevice Ram) (answer : Result (Option Booted) NorFault)
-    where
-  abbrev Answered : Type 0
-  Answered = OfEntries layout (Some old.inner.bytes) (λ entries.
-      AreMadeBy MayEnd MayTear MayRefuse MustRefuse (setting_of old)
-      (rewrites layout.otadata (boot_writes entries)) old.steps new.steps (Some old.inner.bytes)
-      (Some new.inner.bytes) answer
-      × CountsSteps (rewrites layout.otadata (boot_writes entries)) answer)
+  where
+    abbrev Answered : Type 0
+    Answered = OfEntries layout (Some old.inner.bytes) (λ entries.
+        AreMadeBy MayEnd MayTear MayRefuse MustRefuse (setting_of old)
+        (rewrites layout.otadata (boot_writes entries)) old.steps new.steps (Some old.inner.bytes)
+        (Some new.inner.bytes) answer
+        × CountsSteps (rewrites layout.otadata (boot_writes entries)) answer)
 
-  pub boot_rises : old.steps < 2 ^ 64 → Answered → old.steps ≤ new.steps
-  boot_rises small of =
-      made_rises (setting_of old) (boot_steps layout old.inner.bytes) old.steps new.steps
-      (Some old.inner.bytes) (Some new.inner.bytes) answer small (told layout old new answer of)
+    pub boot_rises : old.steps < 2 ^ 64 → Answered → old.steps ≤ new.steps
+    boot_rises small of =
+        made_rises (setting_of old) (boot_steps layout old.inner.bytes) old.steps new.steps
+        (Some old.inner.bytes) (Some new.inner.bytes) answer small (told layout old new answer of)
 
-  pub boot_left : Answered
-      → LeftAfter old.inner.bytes (boot_steps layout old.inner.bytes) new.inner.bytes
-  boot_left of =
-      let left = made_by_left MayEnd MayTear MayRefuse MustRefuse (setting_of old)
-      (boot_steps layout old.inner.bytes) old.steps new.steps (Some old.inner.bytes)
-      (Some new.inner.bytes) answer (told layout old new answer of) in
-      let same : left.0 ≡ new.inner.bytes = let e = left.1 in cc in
-      subst (λ (f : List ℕ). LeftAfter old.inner.bytes (boot_steps layout old.inner.bytes) f)
-      same left.2
+    pub boot_left : Answered
+        → LeftAfter old.inner.bytes (boot_steps layout old.inner.bytes) new.inner.bytes
+    boot_left of =
+        let left = made_by_left MayEnd MayTear MayRefuse MustRefuse (setting_of old)
+        (boot_steps layout old.inner.bytes) old.steps new.steps (Some old.inner.bytes)
+        (Some new.inner.bytes) answer (told layout old new answer of) in
+        let same : left.0 ≡ new.inner.bytes = let e = left.1 in cc in
+        subst (λ (f : List ℕ). LeftAfter old.inner.bytes (boot_steps layout old.inner.bytes) f)
+        same left.2
 
-  pub boot_is : IsReady old → old.steps < 2 ^ 64 → (leg : Leg) → running_in new ≡ None
-      → length new.inner.bytes ≡ length old.inner.bytes → setting_of new ≡ setting_of old
-      → (IsErrOf answer Off → IsTrue (is_off new)) × (IsTrue (is_off new) → IsErrOf answer Off)
-      → Answered
-      → IfOk answer (IsBoot layout (images_in held layout old.inner.bytes)
-      (entries_in layout old.inner.bytes))
-      → old.steps + leg.steps ≡ new.steps → leg.end ≡ end_by new.steps answer
-      → IsBootLeg layout old new leg
-  boot_is ready small leg idle size setting off of booted steps end =
-      let made = told layout old new answer of in
-      record {
-        ran = record {
-          idle = idle;
-          size = size;
-          setting = setting;
-          steps = sym steps;
-          end = subst (HasEnd old new.steps Done) (sym end)
-              (boot_end layout old new answer ready small made);
-          power = off_by_answer layout old new answer (is_off new) off ∙ ap is_cut (sym end);
-        };
-        answer = answer;
-        made = made;
-        end = end;
-        booted = booted;
-      }
+    pub boot_is : IsReady old → old.steps < 2 ^ 64 → (leg : Leg) → running_in new ≡ None
+        → length new.inner.bytes ≡ length old.inner.bytes → setting_of new ≡ setting_of old
+        → (IsErrOf answer Off → IsTrue (is_off new)) × (IsTrue (is_off new) → IsErrOf answer Off)
+        → Answered
+        → IfOk answer (IsBoot layout (images_in held layout old.inner.bytes)
+        (entries_in layout old.inner.bytes))
+        → old.steps + leg.steps ≡ new.steps → leg.end ≡ end_by new.steps answer
+        → IsBootLeg layout old new leg
+    boot_is ready small leg idle size setting off of booted steps end =
+        let made = told layout old new answer of in
+        record {
+          ran = record {
+            idle = idle;
+            size = size;
+            setting = setting;
+            steps = sym steps;
+            end = subst (HasEnd old new.steps Done) (sym end)
+                (boot_end layout old new answer ready small made);
+            power = off_by_answer layout old new answer (is_off new) off ∙ ap is_cut (sym end);
+          };
+          answer = answer;
+          made = made;
+          end = end;
+          booted = booted;
+        }
 
-  -- and what it has started
-  pub boot_has : IsReady old → (leg : Leg) (booted : Option Booted)
-      → boots_in held layout old.inner.bytes ≢ None
-      → running_in new ≡ None → setting_of new ≡ setting_of old
-      → (IsErrOf answer Off → IsTrue (is_off new)) × (IsTrue (is_off new) → IsErrOf answer Off)
-      → Answered
-      → IfOk answer (IsBoot layout (images_in held layout old.inner.bytes)
-      (entries_in layout old.inner.bytes))
-      → leg.end ≡ end_by new.steps answer → booted ≡ started_by answer
-      → HasBooted layout old new leg booted
-  boot_has ready leg booted some idle setting off of boots end is =
-      subst (HasBooted layout old new leg) (sym is)
-      (by answer (told layout old new answer of) boots off end)
-    where
-      same_cut : new.cut ≡ old.cut
-      same_cut = ap (λ (set : CutSetting (Unit {0})). set.cut) setting
+    -- and what it has started
+    pub boot_has : IsReady old → (leg : Leg) (booted : Option Booted)
+        → boots_in held layout old.inner.bytes ≢ None
+        → running_in new ≡ None → setting_of new ≡ setting_of old
+        → (IsErrOf answer Off → IsTrue (is_off new)) × (IsTrue (is_off new) → IsErrOf answer Off)
+        → Answered
+        → IfOk answer (IsBoot layout (images_in held layout old.inner.bytes)
+        (entries_in layout old.inner.bytes))
+        → leg.end ≡ end_by new.steps answer → booted ≡ started_by answer
+        → HasBooted layout old new leg booted
+    boot_has ready leg booted some idle setting off of boots end is =
+        subst (HasBooted layout old new leg) (sym is)
+        (by answer (told layout old new answer of) boots off end)
+      where
+        same_cut : new.cut ≡ old.cut
+        same_cut = ap (λ (set : CutSetting (Unit {0})). set.cut) setting
 
-      same_fail : new.fail ≡ old.fail
-      same_fail = ap (λ (set : CutSetting (Unit {0})). set.fail) setting
+        same_fail : new.fail ≡ old.fail
+        same_fail = ap (λ (set : CutSetting (Unit {0})). set.fail) setting
 
-      by : (r : Result (Option Booted) NorFault)
-          → AreMadeBy MayEnd MayTear MayRefuse MustRefuse (setting_of old)
-          (boot_steps layout old.inner.bytes) old.steps new.steps (Some old.inner.bytes)
-          (Some new.inner.bytes) r
-          → IfOk r (IsBoot layout (images_in held layout old.inner.bytes)
-          (entries_in layout old.inner.bytes))
-          → (IsErrOf r Off → IsTrue (is_off new)) × (IsTrue (is_off new) → IsErrOf r Off)
-          → leg.end ≡ end_by new.steps r → HasBooted layout old new leg (started_by r)
-      by (Ok None) made boot off end = absurd (some boot)
-      by (Ok (Some it)) made boot off end =
-          let ahead = subst (IsUnbroken old) (sym made.counted)
-          (ahead_by layout old new (boot_steps layout old.inner.bytes) ready made.each) in (
-            record {
-              idle = idle;
-              on = off_by_answer layout old new (Ok (Some it)) (is_off new) off;
-              ahead = record {
-                cut_ahead = subst (λ (chosen : Option ℕ). IsAhead chosen new.steps) (sym same_cut)
-                    ahead.cut_ahead;
-                fail_ahead = subst (λ (chosen : Option ℕ). IsAhead chosen new.steps)
-                    (sym same_fail) ahead.fail_ahead;
-              };
-            },
-            ap is_done end,
-            (let e = made.bytes in cc),
-            boot,
-          )
-      by (Err Failed) made boot off end = ap is_done end
-      by (Err Off) made boot off end = ap is_done end
+        by : (r : Result (Option Booted) NorFault)
+            → AreMadeBy MayEnd MayTear MayRefuse MustRefuse (setting_of old)
+            (boot_steps layout old.inner.bytes) old.steps new.steps (Some old.inner.bytes)
+            (Some new.inner.bytes) r
+            → IfOk r (IsBoot layout (images_in held layout old.inner.bytes)
+            (entries_in layout old.inner.bytes))
+            → (IsErrOf r Off → IsTrue (is_off new)) × (IsTrue (is_off new) → IsErrOf r Off)
+            → leg.end ≡ end_by new.steps r → HasBooted layout old new leg (started_by r)
+        by (Ok None) made boot off end = absurd (some boot)
+        by (Ok (Some it)) made boot off end =
+            let ahead = subst (IsUnbroken old) (sym made.counted)
+            (ahead_by layout old new (boot_steps layout old.inner.bytes) ready made.each) in (
+              record {
+                idle = idle;
+                on = off_by_answer layout old new (Ok (Some it)) (is_off new) off;
+                ahead = record {
+                  cut_ahead = subst (λ (chosen : Option ℕ). IsAhead chosen new.steps) (sym same_cut)
+                      ahead.cut_ahead;
+                  fail_ahead = subst (λ (chosen : Option ℕ). IsAhead chosen new.steps)
+                      (sym same_fail) ahead.fail_ahead;
+                };
+              },
+              ap is_done end,
+              (let e = made.bytes in cc),
+              boot,
+            )
+        by (Err Failed) made boot off end = ap is_done end
+        by (Err Off) made boot off end = ap is_done end
 
 -- ---- a leg by the device that came back
 

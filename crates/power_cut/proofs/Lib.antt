@@ -3,3 +3,4 @@ pub mod BehindLemmas
 pub mod EndsLemmas
 pub mod WholeLemmas
 pub mod LogLemmas
+pub mod LegLemmas

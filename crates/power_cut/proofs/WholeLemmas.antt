@@ -294,146 +294,146 @@ module _ (shown : ShowsNone) (layout : Places) (aim : Aim) (image : List ℕ) (o
     module _ (goes : (wants_boot upto && is_done ran.leg.end) ≡ true) (mid dev : CutDevice Ram)
         (mid_is : mid ≡ restarted ran.dev) (leg : Leg) (booted : Option Booted)
         (left : LeftAfter mid.inner.bytes (boot_steps layout mid.inner.bytes) dev.inner.bytes)
-        where
-      done_here : is_done ran.leg.end ≡ true
-      done_here = went_done upto ran.leg.end goes
+      where
+        done_here : is_done ran.leg.end ≡ true
+        done_here = went_done upto ran.leg.end goes
 
-      behind_boot : IsBehind layout first aim image dev.inner.bytes
-      behind_boot = booted_behind ran keeps done_here dev.inner.bytes
-          (subst (λ (d : CutDevice Ram). LeftAfter d.inner.bytes
-          (boot_steps layout d.inner.bytes) dev.inner.bytes) mid_is left)
+        behind_boot : IsBehind layout first aim image dev.inner.bytes
+        behind_boot = booted_behind ran keeps done_here dev.inner.bytes
+            (subst (λ (d : CutDevice Ram). LeftAfter d.inner.bytes
+            (boot_steps layout d.inner.bytes) dev.inner.bytes) mid_is left)
 
-      -- some application boots of what is left
-      pub booted_some : boots_in held layout dev.inner.bytes ≢ None
-      booted_some = behind_some layout first aim image opens dev.inner.bytes behind_boot
+        -- some application boots of what is left
+        pub booted_some : boots_in held layout dev.inner.bytes ≢ None
+        booted_some = behind_some layout first aim image opens dev.inner.bytes behind_boot
 
-      pub booted_placed : IsPlaced layout (length dev.inner.bytes)
-      booted_placed = still_placed dev.inner.bytes behind_boot.size
+        pub booted_placed : IsPlaced layout (length dev.inner.bytes)
+        booted_placed = still_placed dev.inner.bytes behind_boot.size
 
-      module _ (has_booted : HasBooted layout mid dev leg booted) where
-        has : HasBooted layout (restarted ran.dev) dev leg booted
-        has = subst (λ (d : CutDevice Ram). HasBooted layout d dev leg booted) mid_is has_booted
+        module _ (has_booted : HasBooted layout mid dev leg booted) where
+          has : HasBooted layout (restarted ran.dev) dev leg booted
+          has = subst (λ (d : CutDevice Ram). HasBooted layout d dev leg booted) mid_is has_booted
 
-        -- the boot
-        pub outcome_boot : (writes : Writes) (confirms : Confirms) (t : Trial) (legs : List Leg)
-            → writes ran → legs ≡ ran.leg ∷ leg ∷ [] → IsBootLeg layout mid dev leg
-            → confirm_of upto booted ≡ None → IsClosed layout legs ran.journal None dev t
-            → IsOutcome writes confirms layout first aim image upto t
-        outcome_boot writes confirms t legs written legs_are boot_is none closed = record {
-          trial = record {
-            session = ran;
-            written = written;
-            journal = closed.session_is;
-            behind = subst (λ b. BehindSession confirms layout first b upto ran.leg ran.dev t)
-                (sym goes) (record {
-                  new = dev;
-                  leg = leg;
-                  booted = subst (λ (d : CutDevice Ram). IsBootLeg layout d dev leg) mid_is
-                      boot_is;
-                  behind = subst (λ b. BehindBoot confirms layout first b (ran.leg ∷ leg ∷ [])
-                      dev t) (sym (stops upto booted none has))
-                      (subst (λ (l : List Leg). EndsWith l None dev t) legs_are closed.ends);
-                });
-          };
-          boots = subst (BootsEither layout first aim image) (sym closed.ends.flash_is)
-              (behind_boots layout first aim image opens dev.inner.bytes behind_boot);
-          after = closed.after;
-          installed = λ no_boot done. absurd (at upto goes no_boot (stops upto booted none has)
-              (ap is_done (subst AreDone (closed.ends.legs_are ∙ legs_are) done).1.0));
-        }
-          where
-            stops : (u : Upto) (b : Option Booted) → confirm_of u b ≡ None
-                → HasBooted layout (restarted ran.dev) dev leg b
-                → (wants_confirm u && is_done leg.end) ≡ false
-            stops Session b none has = refl
-            stops Boot b none has = refl
-            stops Confirm None none has = has
-            stops Confirm (Some it) none has = absurd cc
+          -- the boot
+          pub outcome_boot : (writes : Writes) (confirms : Confirms) (t : Trial) (legs : List Leg)
+              → writes ran → legs ≡ ran.leg ∷ leg ∷ [] → IsBootLeg layout mid dev leg
+              → confirm_of upto booted ≡ None → IsClosed layout legs ran.journal None dev t
+              → IsOutcome writes confirms layout first aim image upto t
+          outcome_boot writes confirms t legs written legs_are boot_is none closed = record {
+            trial = record {
+              session = ran;
+              written = written;
+              journal = closed.session_is;
+              behind = subst (λ b. BehindSession confirms layout first b upto ran.leg ran.dev t)
+                  (sym goes) (record {
+                    new = dev;
+                    leg = leg;
+                    booted = subst (λ (d : CutDevice Ram). IsBootLeg layout d dev leg) mid_is
+                        boot_is;
+                    behind = subst (λ b. BehindBoot confirms layout first b (ran.leg ∷ leg ∷ [])
+                        dev t) (sym (stops upto booted none has))
+                        (subst (λ (l : List Leg). EndsWith l None dev t) legs_are closed.ends);
+                  });
+            };
+            boots = subst (BootsEither layout first aim image) (sym closed.ends.flash_is)
+                (behind_boots layout first aim image opens dev.inner.bytes behind_boot);
+            after = closed.after;
+            installed = λ no_boot done. absurd (at upto goes no_boot (stops upto booted none has)
+                (ap is_done (subst AreDone (closed.ends.legs_are ∙ legs_are) done).1.0));
+          }
+            where
+              stops : (u : Upto) (b : Option Booted) → confirm_of u b ≡ None
+                  → HasBooted layout (restarted ran.dev) dev leg b
+                  → (wants_confirm u && is_done leg.end) ≡ false
+              stops Session b none has = refl
+              stops Boot b none has = refl
+              stops Confirm None none has = has
+              stops Confirm (Some it) none has = absurd cc
 
-            at : (u : Upto) → (wants_boot u && is_done ran.leg.end) ≡ true → u ≢ Boot
-                → (wants_confirm u && is_done leg.end) ≡ false → is_done leg.end ≡ true → ⊥
-            at Session goes no_boot halts done = cc goes
-            at Boot goes no_boot halts done = no_boot refl
-            at Confirm goes no_boot halts done = let e = sym halts ∙ done in cc e
+              at : (u : Upto) → (wants_boot u && is_done ran.leg.end) ≡ true → u ≢ Boot
+                  → (wants_confirm u && is_done leg.end) ≡ false → is_done leg.end ≡ true → ⊥
+              at Session goes no_boot halts done = cc goes
+              at Boot goes no_boot halts done = no_boot refl
+              at Confirm goes no_boot halts done = let e = sym halts ∙ done in cc e
 
-        -- what is to be confirmed was booted
-        confirms_booted : (u : Upto) (b : Option Booted) (it : Booted) → confirm_of u b ≡ Some it
-            → HasBooted layout (restarted ran.dev) dev leg b
-            → HasBooted layout (restarted ran.dev) dev leg (Some it) × (wants_confirm u ≡ true)
-        confirms_booted Session b it is has = absurd cc
-        confirms_booted Boot b it is has = absurd cc
-        confirms_booted Confirm b it is has =
-            (subst (HasBooted layout (restarted ran.dev) dev leg) is has, refl)
+          -- what is to be confirmed was booted
+          confirms_booted : (u : Upto) (b : Option Booted) (it : Booted) → confirm_of u b ≡ Some it
+              → HasBooted layout (restarted ran.dev) dev leg b
+              → HasBooted layout (restarted ran.dev) dev leg (Some it) × (wants_confirm u ≡ true)
+          confirms_booted Session b it is has = absurd cc
+          confirms_booted Boot b it is has = absurd cc
+          confirms_booted Confirm b it is has =
+              (subst (HasBooted layout (restarted ran.dev) dev leg) is has, refl)
 
-        module _ (it : Booted) (is : confirm_of upto booted ≡ Some it) (write : Rewrite)
-            (write_is : write ≡ restated 2 aim.next.sector aim.next.entry) where
-          whole_boot : HasBooted layout (restarted ran.dev) dev leg (Some it)
-          whole_boot = (confirms_booted upto booted it is has).0
+          module _ (it : Booted) (is : confirm_of upto booted ≡ Some it) (write : Rewrite)
+              (write_is : write ≡ restated 2 aim.next.sector aim.next.entry) where
+            whole_boot : HasBooted layout (restarted ran.dev) dev leg (Some it)
+            whole_boot = (confirms_booted upto booted it is has).0
 
-          pub confirm_may : MayConfirm layout first dev it write
-          confirm_may = may_confirm ran keeps done_here dev leg it whole_boot write write_is
+            pub confirm_may : MayConfirm layout first dev it write
+            confirm_may = may_confirm ran keeps done_here dev leg it whole_boot write write_is
 
-          module _ (last : Ran) (kept : KeepsConfirm layout write dev last) where
-            behind_last : IsBehind layout first aim image last.dev.inner.bytes
-            behind_last = confirmed_behind ran keeps done_here dev leg it whole_boot write write_is
-                last kept
-
-            pub last_some : boots_in held layout last.dev.inner.bytes ≢ None
-            last_some = behind_some layout first aim image opens last.dev.inner.bytes behind_last
-
-            pub last_placed : IsPlaced layout (length last.dev.inner.bytes)
-            last_placed = still_placed last.dev.inner.bytes behind_last.size
-
-            pub last_small : length first < 2 ^ 32 → length last.dev.inner.bytes < 2 ^ 32
-            last_small small = omega (arith, small, behind_last.size)
-
-            -- the confirmation
-            pub outcome_confirm : (writes : Writes) (confirms : Confirms) (t : Trial)
-                (legs : List Leg) → writes ran → legs ≡ ran.leg ∷ leg ∷ last.leg ∷ []
-                → IsBootLeg layout mid dev leg
-                → (at : Bor Booted) (of : Bor Rewrite) → confirms dev at of last → at.now ≡ it
-                → of.now ≡ write → IsClosed layout legs ran.journal (Some last.journal) last.dev t
-                → IsOutcome writes confirms layout first aim image upto t
-            outcome_confirm writes confirms t legs written legs_are boot_is at of confirmed at_is
-                of_is closed = record {
-              trial = record {
-                session = ran;
-                written = written;
-                journal = closed.session_is;
-                behind = subst (λ b. BehindSession confirms layout first b upto ran.leg ran.dev t)
-                    (sym goes) (record {
-                      new = dev;
-                      leg = leg;
-                      booted = subst (λ (d : CutDevice Ram). IsBootLeg layout d dev leg) mid_is
-                          boot_is;
-                      behind = subst (λ b. BehindBoot confirms layout first b
-                          (ran.leg ∷ leg ∷ []) dev t) (sym goes_on) (record {
-                            at = at;
-                            write = of;
-                            may = subst (λ b. MayConfirm layout first dev b of.now) (sym at_is)
-                                (subst (MayConfirm layout first dev it) (sym of_is) confirm_may);
-                            ran = last;
-                            confirmed = confirmed;
-                            ends = subst
-                                (λ (l : List Leg). EndsWith l (Some last.journal) last.dev t)
-                                legs_are closed.ends;
-                          });
-                    });
-              };
-              boots = subst (BootsEither layout first aim image) (sym closed.ends.flash_is)
-                  (behind_boots layout first aim image opens last.dev.inner.bytes behind_last);
-              after = closed.after;
-              installed = λ no_boot done.
-                  subst (BootsNew layout aim image) (sym closed.ends.flash_is)
-                  (confirmed_boots_new ran keeps done_here dev leg it whole_boot write write_is
+            module _ (last : Ran) (kept : KeepsConfirm layout write dev last) where
+              behind_last : IsBehind layout first aim image last.dev.inner.bytes
+              behind_last = confirmed_behind ran keeps done_here dev leg it whole_boot write write_is
                   last kept
-                  (ap is_done (subst AreDone (closed.ends.legs_are ∙ legs_are) done).1.1.0));
-            }
-              where
-                goes_on : (wants_confirm upto && is_done leg.end) ≡ true
-                goes_on = both (wants_confirm upto) (is_done leg.end)
-                    (confirms_booted upto booted it is has).1 whole_boot.1
-                  where
-                    both : (a b : Bool) → a ≡ true → b ≡ true → (a && b) ≡ true
-                    both true b one two = two
-                    both false b one two = absurd cc
+
+              pub last_some : boots_in held layout last.dev.inner.bytes ≢ None
+              last_some = behind_some layout first aim image opens last.dev.inner.bytes behind_last
+
+              pub last_placed : IsPlaced layout (length last.dev.inner.bytes)
+              last_placed = still_placed last.dev.inner.bytes behind_last.size
+
+              pub last_small : length first < 2 ^ 32 → length last.dev.inner.bytes < 2 ^ 32
+              last_small small = omega (arith, small, behind_last.size)
+
+              -- the confirmation
+              pub outcome_confirm : (writes : Writes) (confirms : Confirms) (t : Trial)
+                  (legs : List Leg) → writes ran → legs ≡ ran.leg ∷ leg ∷ last.leg ∷ []
+                  → IsBootLeg layout mid dev leg
+                  → (at : Bor Booted) (of : Bor Rewrite) → confirms dev at of last → at.now ≡ it
+                  → of.now ≡ write → IsClosed layout legs ran.journal (Some last.journal) last.dev t
+                  → IsOutcome writes confirms layout first aim image upto t
+              outcome_confirm writes confirms t legs written legs_are boot_is at of confirmed at_is
+                  of_is closed = record {
+                    trial = record {
+                      session = ran;
+                      written = written;
+                      journal = closed.session_is;
+                      behind = subst (λ b. BehindSession confirms layout first b upto ran.leg ran.dev t)
+                          (sym goes) (record {
+                            new = dev;
+                            leg = leg;
+                            booted = subst (λ (d : CutDevice Ram). IsBootLeg layout d dev leg) mid_is
+                                boot_is;
+                            behind = subst (λ b. BehindBoot confirms layout first b
+                                (ran.leg ∷ leg ∷ []) dev t) (sym goes_on) (record {
+                                  at = at;
+                                  write = of;
+                                  may = subst (λ b. MayConfirm layout first dev b of.now) (sym at_is)
+                                      (subst (MayConfirm layout first dev it) (sym of_is) confirm_may);
+                                  ran = last;
+                                  confirmed = confirmed;
+                                  ends = subst
+                                      (λ (l : List Leg). EndsWith l (Some last.journal) last.dev t)
+                                      legs_are closed.ends;
+                                });
+                          });
+                    };
+                    boots = subst (BootsEither layout first aim image) (sym closed.ends.flash_is)
+                        (behind_boots layout first aim image opens last.dev.inner.bytes behind_last);
+                    after = closed.after;
+                    installed = λ no_boot done.
+                        subst (BootsNew layout aim image) (sym closed.ends.flash_is)
+                        (confirmed_boots_new ran keeps done_here dev leg it whole_boot write write_is
+                        last kept
+                        (ap is_done (subst AreDone (closed.ends.legs_are ∙ legs_are) done).1.1.0));
+                  }
+                where
+                  goes_on : (wants_confirm upto && is_done leg.end) ≡ true
+                  goes_on = both (wants_confirm upto) (is_done leg.end)
+                      (confirms_booted upto booted it is has).1 whole_boot.1
+                    where
+                      both : (a b : Bool) → a ≡ true → b ≡ true → (a && b) ≡ true
+                      both true b one two = two
+                      both false b one two = absurd cc

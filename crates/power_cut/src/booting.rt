@@ -44,9 +44,27 @@ fn leg_by(answer: Result<Booted, BootFault>, before: u64, now: u64) -> (Leg, Opt
 {
     let steps = now - before;
     match answer {
-        Ok(at) => (Leg { steps, end: LegEnd::Done }, Some(at)),
-        Err(BootFault::Device) => (Leg { steps, end: LegEnd::Device { step: now } }, None),
-        Err(BootFault::Cut) => (Leg { steps, end: LegEnd::Cut { step: now } }, None),
+        Ok(at) => (
+            Leg {
+                steps,
+                end: LegEnd::Done,
+            },
+            Some(at),
+        ),
+        Err(BootFault::Device) => (
+            Leg {
+                steps,
+                end: LegEnd::Device { step: now },
+            },
+            None,
+        ),
+        Err(BootFault::Cut) => (
+            Leg {
+                steps,
+                end: LegEnd::Cut { step: now },
+            },
+            None,
+        ),
         Err(BootFault::NoApp) => unreachable!(),
     }
 }

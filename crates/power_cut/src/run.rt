@@ -31,7 +31,7 @@ use otadata::{Entry, state};
 use partition_table::Layout;
 use rollback::Rewrite;
 
-/// Runs an update of `image` on a device that made no step yet, as far as `upto`: the runner's
+/// Runs an update of `image` on a device, as far as `upto`: the runner's
 /// session, then, with the power on again, a boot, then the runner's confirmation. The first leg
 /// that is not made whole is the last.
 ///
@@ -46,14 +46,14 @@ pub fn trial<U: Runner>(
     runner: &U,
 ) -> Result<Trial, Memory>
     requires ready { IsReady dev }
-    requires fresh { dev.steps ≡ 0 }
     requires small { length dev.inner.bytes < 2 ^ 32 }
     requires opens { Opens layout.now dev.inner.bytes aim.now image.now }
     requires may_write { U.may_write runner.now dev aim image }
     requires written { (ran : Left) → U.has_written runner.now dev aim image (Ok ran)
         → KeepsSession layout.now aim.now image.now dev ran }
     requires may_confirm { (d : CutDevice Ram) (at : Bor Started) (write : Bor Written)
-        → MayConfirm layout.now dev.inner.bytes d at.now write.now → U.may_confirm runner.now d at write }
+        → MayConfirm layout.now dev.inner.bytes d at.now write.now
+        → U.may_confirm runner.now d at write }
     requires confirmed { (d : CutDevice Ram) (at : Bor Started) (write : Bor Written) (ran : Left)
         → MayConfirm layout.now dev.inner.bytes d at.now write.now
         → U.has_confirmed runner.now d at write (Ok ran) → KeepsConfirm layout.now write.now d ran }
@@ -81,14 +81,14 @@ fn run<U: Runner>(
     runner: &U,
 ) -> Result<Trial, Memory>
     requires ready { IsReady dev }
-    requires fresh { dev.steps ≡ 0 }
     requires small { length dev.inner.bytes < 2 ^ 32 }
     requires opens { Opens layout.now dev.inner.bytes aim.now image.now }
     requires may_write { U.may_write runner.now dev aim image }
     requires written { (ran : Left) → U.has_written runner.now dev aim image (Ok ran)
         → KeepsSession layout.now aim.now image.now dev ran }
     requires may_confirm { (d : CutDevice Ram) (at : Bor Started) (write : Bor Written)
-        → MayConfirm layout.now dev.inner.bytes d at.now write.now → U.may_confirm runner.now d at write }
+        → MayConfirm layout.now dev.inner.bytes d at.now write.now
+        → U.may_confirm runner.now d at write }
     requires confirmed { (d : CutDevice Ram) (at : Bor Started) (write : Bor Written) (ran : Left)
         → MayConfirm layout.now dev.inner.bytes d at.now write.now
         → U.has_confirmed runner.now d at write (Ok ran) → KeepsConfirm layout.now write.now d ran }

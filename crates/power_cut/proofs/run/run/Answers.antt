@@ -154,13 +154,13 @@ returns g c =
     c.in_ok-ran.ensures.has in
     record {
       outcome = outcome_confirm c.whole_images_show_no_fault.ensures c.args.layout.now
-    c.args.aim.now c.args.image.now c.args.dev c.requires.opens c.args.upto ran keeps
-    (sym c.goes_on.ensures.exact ∙ c.if-not-goes_on.false) c.restart-dev.result
-    c.boot_leg-booted.new.dev c.restart-dev.ensures.exact c.boot_leg-booted.result.0
-    c.boot_leg-booted.result.1 c.boot_leg-booted.ensures.left
-    c.boot_leg-booted.ensures.booted c.in-Some.at
-    (sym c.booted_for.ensures.exact ∙ c.in-Some.is) c.confirmation.result
-    c.confirmation.ensures.exact c.in_ok-ran.ran kept _ _ c.close-2.result
+          c.args.aim.now c.args.image.now c.args.dev c.requires.opens c.args.upto ran keeps
+          (sym c.goes_on.ensures.exact ∙ c.if-not-goes_on.false) c.restart-dev.result
+          c.boot_leg-booted.new.dev c.restart-dev.ensures.exact c.boot_leg-booted.result.0
+          c.boot_leg-booted.result.1 c.boot_leg-booted.ensures.left
+          c.boot_leg-booted.ensures.booted c.in-Some.at
+          (sym c.booted_for.ensures.exact ∙ c.in-Some.is) c.confirmation.result
+          c.confirmation.ensures.exact c.in_ok-ran.ran kept _ _ c.close-2.result
           c.push-3.new.self.items c.in_ok-dev.ensures.has
           (c.push-3.ensures.items ∙ ap (λ (l : List Leg). l ++ c.in_ok-ran.ran.leg ∷ [])
           (c.push-2.ensures.items ∙ ap (λ (l : List Leg). l ++ c.boot_leg-booted.result.0 ∷ [])
