@@ -31,12 +31,13 @@ use Rattle.bus_hub.specs.Told.{fetch_items}
 use Rattle.cache_gate.specs.Works.{Works, events_in}
 use Rattle.cache_gate.specs.Own.{Own, Adds, Keeps, HasFetched, HasRoom, did, saw, set_to}
 use Rattle.cache_gate.proofs.Rooms.{room_added}
-use Rattle.cache_gate.proofs.Walks.{events_in-append, works_first, works_last, works_then}
+use Rattle.cache_gate.proofs.Walks.{works_first, works_last}
 use Rattle.flash_ops.specs.declared.refusal.OpNo.{OpNo}
 use Rattle.flash_ops.specs.declared.refusal.OpNo.TheVariants as ops
 use Rattle.flash_ops.specs.declared.refusal.StepNo.{StepNo}
 use Rattle.flash_ops.specs.declared.refusal.StepNo.TheVariants.{Device, Cut}
 use Rattle.flash_ops.specs.Told.{HasChanged, barred_by, fault_of}
+use Rattle.flash_ops.proofs.Runs.{adds_then, regs_same}
 use Rattle.duo_run.specs.Worker.{Acted, BreaksOff, HasLeft, HasWritten, mapped_act, note, refused, regs_after, unmapped_act, why_of}
 use Rattle.duo_run.specs.Works.{HasActed}
 use Rattle.duo_run.specs.Ends.{NotesEnd, end_act}
@@ -45,18 +46,6 @@ use Rattle.duo_run.proofs.AskLemmas.{room_less}
 -- ---- what was added, one after the other
 
 module _ {B : Type 0} where
-  pub adds_then : (xs ys : List Did) (o a b : Own B Did) → Adds xs o a → Adds ys a b
-      → Adds (xs ++ ys) o b
-  adds_then xs ys o a b x y = record {
-    is = y.is ∙ (ap (λ (z : Own B Did). did z ys b.seen) x.is
-        ∙ ap (λ (s : List Did). record o { share = s; seen = b.seen })
-        (append_assoc o.share xs ys));
-    works = subst (λ (w : List Kind). Works w o.core o.seen b.core b.seen)
-        (sym (events_in-append xs ys))
-        (works_then (events_in xs) (events_in ys) o.core a.core b.core o.seen a.seen b.seen
-        x.works y.works);
-  }
-
   pub adds_keeps : (xs : List Did) (o a b : Own B Did) → Adds xs o a → Keeps a b → Adds xs o b
   adds_keeps xs o a b x y = record {
     is = y.is ∙ ap (λ (z : Own B Did). saw z b.seen) x.is;
@@ -75,16 +64,12 @@ module _ {B : Type 0} where
   adds_set xs regs o a x =
       record { is = ap (λ (z : Own B Did). set_to z regs) x.is; works = x.works }
 
-  -- what was added to the same core
-  pub regs_kept : (xs : List Did) (o a : Own B Did) → Adds xs o a → a.regs ≡ o.regs
-  regs_kept xs o a x = ap (λ (z : Own B Did). z.regs) x.is
-
   -- an entry behind a mark of the same core, which shows its registers
   marked : (mark : Did) (k : ℕ) (act : Act) (o a b : Own B Did) → Adds (mark ∷ []) o a
       → Adds (Noted k a.regs act ∷ []) a b → Adds (mark ∷ note k o.regs act) o b
   marked mark k act o a b x y =
       adds_then (mark ∷ []) (note k o.regs act) o a b x
-      (subst (λ (regs : Regs). Adds (note k regs act) a b) (regs_kept (mark ∷ []) o a x) y)
+      (subst (λ (regs : Regs). Adds (note k regs act) a b) (regs_same (mark ∷ []) o a x) y)
 
 -- ---- fetch
 
@@ -222,7 +207,7 @@ module _ {B : Type 0} where
     items = h.items ++ note k o.regs acts.Wrote;
     adds = adds_then h.items (note k o.regs acts.Wrote) o a b h.adds
         (subst (λ (regs : Regs). Adds (note k regs acts.Wrote) a b)
-        (regs_kept h.items o a h.adds) notes.1);
+        (regs_same h.items o a h.adds) notes.1);
     wrote = subst (λ (x : Result (Unit {0}) StepNo). Wrote k o.regs (Ok row) steps (fault_of x)
         (h.items ++ note k o.regs acts.Wrote)) (sym notes.0)
         (record { did = h.items; follows = h.ran; is = refl });

@@ -31,25 +31,15 @@ use Rattle.flash_ops.specs.declared.refusal.OpNo.TheVariants as ops
 use Rattle.flash_ops.specs.Moves.{makes, bytes_for}
 use Rattle.flash_ops.specs.Asked.{GrantsAll, MayMakeAll, CanChange}
 use Rattle.flash_ops.specs.Told.{HasChanged, barred_by}
+use Rattle.flash_ops.proofs.Can.{grants_first, grants_then}
+use Rattle.flash_ops.proofs.Runs.{bytes_for_makes, entries_for_makes, steps_of_makes}
 use Rattle.duo_run.specs.Worker.{BreaksOff, HasEnded, HasLeft, HasWritten, action_steps, regs_after}
 use Rattle.duo_run.specs.Room.{entries_in, bytes_in}
 use Rattle.duo_run.specs.Works.{CanAct, CanWork, FitsBase, HasActed}
-use Rattle.duo_run.proofs.StepsLemmas.{MakesSteps, made_behind, bytes_for-makes, entries_for-makes, follows_needs, stops_needs, steps_of-makes}
+use Rattle.duo_run.proofs.StepsLemmas.{MakesSteps, made_behind, follows_needs, stops_needs}
 use Rattle.duo_run.proofs.ShareLemmas.{left_makes}
 
 -- ---- what the duty allows
-
-module _ {P : Type 0} (grants : P → Step → Type 0) (moved : P → Step → P) where
-  -- of two lists, one behind the other
-  grants_first : (p : P) (s t : List Step) → GrantsAll grants moved p (s ++ t)
-      → GrantsAll grants moved p s
-  grants_first p [] t may = tt
-  grants_first p (step ∷ s) t may = (may.0, grants_first (moved p step) s t may.1)
-
-  grants_rest : (p : P) (s t : List Step) → GrantsAll grants moved p (s ++ t)
-      → GrantsAll grants moved (moved_by moved p s) t
-  grants_rest p [] t may = may
-  grants_rest p (step ∷ s) t may = grants_rest (moved p step) s t may.1
 
 module _ {S K P : Type 0} (part : K → ℕ → P) (grants : P → Step → Type 0)
     (moved : P → Step → P) where
@@ -69,7 +59,7 @@ module _ {S K P : Type 0} (part : K → ℕ → P) (grants : P → Step → Type
       subst (λ (p : P). GrantsAll grants moved p t)
       (sym (ap (moved_by moved (part b.duty c)) (made_behind share items s m)
       ∙ moved_by-append moved (part b.duty c) (made share) s))
-      (grants_rest grants moved (moved_by moved (part b.duty c) (made share)) s t may)
+      (grants_then grants moved (moved_by moved (part b.duty c) (made share)) s t may)
 
 -- ---- room
 
@@ -221,11 +211,11 @@ module _ {S K P : Type 0} (part : K → ℕ → P) (grants : P → Step → Type
     small = there.1;
     can = record {
       may = subst (λ (s : List Step). MayMakeAll part grants moved o.base o.core o.share s)
-          (sym (steps_of-makes steps)) may;
+          (sym (steps_of_makes steps)) may;
       room = subst (λ (n : ℕ). HasRoom o.base o.core o.share n (bytes_for (makes steps)))
-          (sym (entries_for-makes steps))
+          (sym (entries_for_makes steps))
           (subst (λ (m : ℕ). HasRoom o.base o.core o.share (2 * length steps) m)
-          (sym (bytes_for-makes steps)) room);
+          (sym (bytes_for_makes steps)) room);
       look = tt;
     };
   }
@@ -273,6 +263,20 @@ module _ {S K P : Type 0} (part : K → ℕ → P) (grants : P → Step → Type
           change_of o (row.offset + offset) len _
           (inside_part o.base rows label.items offset len row can.base open_for) can.may
           (room_less o.base o.core o.share _ 0 _ 0 can.room (omega arith) (omega arith))
+
+  -- its partition begins at a sector
+  pub erase_sector : (o : Own (Base S K) Did) (rows : List Row) (label : ArrayVec ℕ)
+      (offset len : ℕ) → CanAct part grants moved rows (Erase label offset len) o
+      → IfOk (erase_checked rows label.items offset len) (λ row. row.offset % 4096 ≡ 0)
+  erase_sector o rows label offset len can =
+      by (erase_checked rows label.items offset len) refl
+    where
+      by : (checked : Result Row PartNo) → erase_checked rows label.items offset len ≡ checked
+          → IfOk checked (λ row. row.offset % 4096 ≡ 0)
+      by (Err refusal) is = tt
+      by (Ok row) is =
+          at_sector o.base rows label.items offset len row can.base
+          (erase_open rows label.items offset len row is).0
 
 -- room is left to note the end of a write or an erase
 module _ {S K : Type 0} where

@@ -6,3 +6,4 @@ mod AskLemmas
 mod ActLemmas
 pub mod WorkLemmas
 mod RoomLemmas
+mod FreshLemmas

@@ -8,7 +8,8 @@ use Rattle.bus_hub.specs.declared.did.Did.{Did}
 use Rattle.bus_hub.specs.declared.did.Did.TheVariants.{Opened, Closed, Broken, Fetched, Noted, Denied, Mapping, Unmapping, Missed, Masked}
 use Rattle.bus_hub.specs.Hub.{needs, byte_needs}
 use Rattle.bus_hub.specs.Shares.{Begun, open_after, open_from, made_by, made_from}
-use Rattle.flash_ops.specs.Moves.{Make, makes, steps_of, entries_for, bytes_for, Follows, Stops}
+use Rattle.flash_ops.specs.Moves.{makes, Follows, Stops}
+use Rattle.flash_ops.proofs.Runs.{byte_needs_follows, bytes_for_makes, entries_for_makes, made_follows, made_from-append, needs_follows, steps_of_makes}
 use Rattle.duo_run.specs.Worker.{IsFirstPart, regs_by, regs_by_item}
 
 -- ---- steps
@@ -16,14 +17,6 @@ use Rattle.duo_run.specs.Worker.{IsFirstPart, regs_by, regs_by_item}
 -- the items end these steps whole, whatever was open before
 pub record MakesSteps (steps : List Step) (items : List Did) : Type 0 where
   pub makes : (o : Option Begun) → made_from o items ≡ steps
-
-made_from-append : (o : Option Begun) (a b : List Did)
-    → made_from o (a ++ b) ≡ made_from o a ++ made_from (open_from o a) b
-made_from-append o [] b = refl
-made_from-append o (did ∷ a) b =
-    ap (λ (s : List Step). made_by o did ++ s) (made_from-append (open_after o did) a b)
-    ∙ sym (append_assoc (made_by o did) (made_from (open_after o did) a)
-    (made_from (open_from (open_after o did) a) b))
 
 -- nothing ends no step
 pub makes_none : (items : List Did) → items ≡ [] → MakesSteps [] items
@@ -49,10 +42,8 @@ made_behind share items steps m =
 -- steps that were made
 pub follows_makes : (k : ℕ) (regs : Regs) (steps : List Step) (items : List Did)
     → Follows k regs (makes steps) items → MakesSteps steps items
-follows_makes k regs [] items f = makes_none items f
-follows_makes k regs (step ∷ steps) items (rest, is, f) = record {
-  makes = λ o. ap (λ (s : List Did). made_from o s) is
-      ∙ ap (λ (s : List Step). step ∷ s) ((follows_makes k regs steps rest f).makes None);
+follows_makes k regs steps items f = record {
+  makes = λ o. made_follows k regs o (makes steps) items f ∙ steps_of_makes steps;
 }
 
 -- a first part of the steps, the rest of which was not made
@@ -138,15 +129,10 @@ stops_regs k own regs why (step ∷ steps) items (inr (inr (rest, is, s))) =
 pub follows_needs : (k : ℕ) (regs : Regs) (steps : List Step) (items : List Did)
     → Follows k regs (makes steps) items
     → (needs items ≤ 2 * length steps) × (byte_needs items ≡ 0)
-follows_needs k regs [] items f =
-    let a : needs items ≡ 0 = ap needs f in
-    let b : byte_needs items ≡ 0 = ap byte_needs f in (omega arith, b)
-follows_needs k regs (step ∷ steps) items (rest, is, f) =
-    let a : needs items ≡ 2 + (0 + needs rest) = ap needs is in
-    let b : byte_needs items ≡ 0 + (0 + byte_needs rest) = ap byte_needs is in
-    let both = follows_needs k regs steps rest f in
-    let c = both.0 in
-    let d = both.1 in (omega arith, omega arith)
+follows_needs k regs steps items f =
+    let a = needs_follows k regs (makes steps) items f ∙ entries_for_makes steps in
+    let b = byte_needs_follows k regs (makes steps) items f ∙ bytes_for_makes steps in
+    (omega arith, b)
 
 pub stops_needs : (k : ℕ) (regs : Regs) (why : NorFault) (steps : List Step) (items : List Did)
     → Stops k regs why (makes steps) items
@@ -164,16 +150,3 @@ stops_needs k regs why (step ∷ steps) items (inr (inr (rest, is, s))) =
     let both = stops_needs k regs why steps rest s in
     let c = both.0 in
     let d = both.1 in (omega arith, omega arith)
-
--- the steps among moves that are steps
-pub steps_of-makes : (steps : List Step) → steps_of (makes steps) ≡ steps
-steps_of-makes [] = refl
-steps_of-makes (step ∷ steps) = ap (λ (s : List Step). step ∷ s) (steps_of-makes steps)
-
-pub entries_for-makes : (steps : List Step) → entries_for (makes steps) ≡ 2 * length steps
-entries_for-makes [] = omega arith
-entries_for-makes (step ∷ steps) = let e = entries_for-makes steps in omega arith
-
-pub bytes_for-makes : (steps : List Step) → bytes_for (makes steps) ≡ 0
-bytes_for-makes [] = refl
-bytes_for-makes (step ∷ steps) = bytes_for-makes steps

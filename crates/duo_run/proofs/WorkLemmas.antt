@@ -10,16 +10,16 @@ use Rattle.core_script.specs.Action.{IsInBounds}
 use Rattle.bus_hub.specs.declared.did.Base.{Base}
 use Rattle.bus_hub.specs.declared.did.Did.{Did}
 use Rattle.cache_gate.specs.Own.{Own, Adds, Keeps, set_to}
-use Rattle.cache_gate.proofs.Walks.{works_none}
 use Rattle.flash_ops.specs.declared.refusal.StepNo.{StepNo}
 use Rattle.flash_ops.specs.declared.refusal.StepNo.TheVariants.{Device, Cut}
 use Rattle.flash_ops.specs.Told.{fault_of}
+use Rattle.flash_ops.proofs.Runs.{adds_none, adds_then, keeps_same}
 use Rattle.duo_run.specs.Worker.{HasDone, HasLeft, HasStopped, ShareFrom, regs_after, regs_by}
 use Rattle.duo_run.specs.Works.{CanAct, CanWork, HasActed, HasWorked, HasWorkedFrom}
 use Rattle.duo_run.proofs.StepsLemmas.{regs_by-append}
 use Rattle.duo_run.proofs.ShareLemmas.{ended_regs, left_regs}
 use Rattle.duo_run.proofs.AskLemmas.{can_first, can_rest}
-use Rattle.duo_run.proofs.ActLemmas.{adds_keeps, adds_set, adds_then, keeps_adds}
+use Rattle.duo_run.proofs.ActLemmas.{adds_keeps, adds_set, keeps_adds}
 
 -- the share of one action and of those behind it
 joined : (rows : List Row) (k : ℕ) (regs : Regs) (action : Action) (later : List Action)
@@ -46,10 +46,7 @@ module _ {B : Type 0} where
   worked_none : (rows : List Row) (k : ℕ) (o : Own B Did) → HasWorkedFrom rows k [] (Ok tt) o o
   worked_none rows k o = record {
     items = [];
-    adds = record {
-      is = ap (λ (s : List Did). record o { share = s }) (sym (append-nil o.share));
-      works = works_none o.core o.seen;
-    };
+    adds = adds_none o o (keeps_same o);
     share = refl;
   }
 

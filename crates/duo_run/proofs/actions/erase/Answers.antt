@@ -1,5 +1,5 @@
 use Rattle.duo_run.proofs.ActLemmas.{erase_acted}
-use Rattle.duo_run.proofs.AskLemmas.{can_erase, erase_room}
+use Rattle.duo_run.proofs.AskLemmas.{can_erase, erase_room, erase_sector}
 use Rattle.duo_run.proofs.actions.erase.Goals as goal
 
 -- the duty allows it, where it is not refused
@@ -7,8 +7,11 @@ pub part_erase-core-requires : goal.part_erase-core-requires
 part_erase-core-requires g c =
     let k = g.K.Duty in
     record {
-      can = rw (c.as_slice.ensures.value)
+      can = rw c.as_slice.ensures.value
           (can_erase k.part k.grants k.moved c.args.core c.args.table.now c.args.label.now
+          c.args.offset c.args.len c.requires.can);
+      sector = rw c.as_slice.ensures.value
+          (erase_sector k.part k.grants k.moved c.args.core c.args.table.now c.args.label.now
           c.args.offset c.args.len c.requires.can);
     }
 
