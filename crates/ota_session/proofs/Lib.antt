@@ -7,3 +7,7 @@ pub mod OpeningLemmas
 pub mod BootLemmas
 pub mod ReadLemmas
 pub mod MomentLemmas
+pub mod MoveLemmas
+pub mod StageLemmas
+pub mod EntryLemmas
+pub mod SealLemmas

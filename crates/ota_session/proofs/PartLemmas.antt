@@ -9,15 +9,10 @@ use Rattle.flash_steps.specs.Parts.{LiesInOpenPart}
 use Rattle.bus_hub.specs.declared.did.Base.{Base}
 use Rattle.bus_hub.specs.declared.did.Did.{Did}
 use Rattle.bus_hub.specs.Shares.{made, moved_by}
+use Rattle.flash_ops.specs.Asked.{GrantsAll}
 use Rattle.ota_session.specs.declared.part.UpdatePart.{UpdatePart}
 use Rattle.ota_session.specs.declared.part.UpdatePart.TheVariants.{Driver, Other}
 use Rattle.ota_session.specs.Course.{Course, Grants, part_after, part_of}
-
-module _ {P : Type 0} (grants : P → Step → Type 0) (moved : P → Step → P) where
-  -- the part of a duty allows the steps, one after the other
-  abbrev pub GrantsAll : P → List Step → Type 0
-  GrantsAll p [] = Unit {0}
-  GrantsAll p (step ∷ steps) = grants p step × GrantsAll (moved p step) steps
 
 -- the part of the driver
 pub driver_part : (course : Course) (c : ℕ) → c ≡ course.driver

@@ -17,7 +17,7 @@ use Rattle.bus_hub.specs.declared.did.Did.{Did}
 use Rattle.cache_gate.specs.Own.{IsInside, Own}
 use Rattle.update_steps.specs.Driver.{data_steps, driver_steps, next_rewrite, sealed_steps}
 use Rattle.update_steps.proofs.SessionLemmas.{sector_two}
-use Rattle.flash_ops.specs.Asked.{HasRoomFor, MayMakeAll}
+use Rattle.flash_ops.specs.Asked.{CanLook, HasRoomFor, MayMakeAll}
 use Rattle.flash_ops.specs.declared.refusal.StepNo.{StepNo}
 use Rattle.flash_ops.specs.Told.{fault_of}
 use Rattle.flash_ops.specs.Moves.{HasRun}
@@ -126,6 +126,21 @@ pub can_seal_at : {S : Type 0} (v self : Verified (Base S Course)) → v ≡ sel
     → CanAnnounce v.target.otadata v.target.next v.core
 can_seal_at {S} v self same is =
     can_seal v (subst (λ (x : Verified (Base S Course)). IsVerified x) (sym same) is)
+
+module _ {S : Type 0} (probe : Option ℕ) (v self : Verified (Base S Course)) (same : v ≡ self)
+  where
+    pub seal_room_at : HasRoomFor self.core.base self.core.core self.core.share
+        (entry_moves probe self.target.otadata self.target.next)
+        → HasRoomFor v.core.base v.core.core v.core.share
+        (entry_moves probe v.target.otadata v.target.next)
+    seal_room_at room = subst (λ (x : Verified (Base S Course)).
+        HasRoomFor x.core.base x.core.core x.core.share
+        (entry_moves probe x.target.otadata x.target.next)) (sym same) room
+
+    pub seal_look_at : CanLook self.core.base self.core.regs probe
+        → CanLook v.core.base v.core.regs probe
+    seal_look_at look = subst (λ (x : Verified (Base S Course)).
+        CanLook x.core.base x.core.regs probe) (sym same) look
 
 module _ {S : Type 0} (probe : Option ℕ) (v self : Verified (Base S Course)) (same : v ≡ self)
     (p : Own (Base S Course) Did) (r : Result (Unit {0}) StepNo)

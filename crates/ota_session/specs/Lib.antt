@@ -1,7 +1,6 @@
 -- In reading order: what an update is for and how far it has come; how a duty shows it; which step has
--- a number; and the laws of the duty, which its `impl` cites.
--- In reading order: what an update is for and how far it has come; how a duty shows it; the moves
--- and the stages of a session, and the answers of its calls.
+-- a number; the laws of the duty, which its `impl` cites; the moves and the stages of a session, and the
+-- answers of its calls.
 pub mod Course
 pub mod DutyView
 pub mod Numbers
