@@ -7,3 +7,11 @@ mod ActLemmas
 pub mod WorkLemmas
 mod RoomLemmas
 mod FreshLemmas
+mod PlaceLemmas
+mod DriverRoomLemmas
+mod DriverStepsLemmas
+mod ShareEndLemmas
+mod DriveLemmas
+mod BeginLemmas
+mod HoldsLemmas
+mod OutcomeLemmas

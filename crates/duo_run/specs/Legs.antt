@@ -1,14 +1,12 @@
 -- The legs of an update with both cores: what each core's share is, and when a leg may be run.
-use Rattle.std.specs.Prelude.{◌≡◌, ◌<◌, ℕ, List, drop, length, take, IfSome, Ok, Result}
+use Rattle.std.specs.Prelude.{◌≡◌, ℕ, List, IfSome, Result}
 use Rattle.core_state.specs.Registers.{reset}
 use Rattle.nor_device.specs.declared.nor.NorFault.{NorFault}
-use Rattle.nor_device.specs.FlashSize.{IsFlashSize}
 use Rattle.nor_device.specs.Ram.{Ram}
 use Rattle.crash_images.specs.Cut.{CutDevice}
 use Rattle.partition_table.specs.declared.app.App.{App}
 use Rattle.partition_table.specs.declared.row.Row.{Row}
-use Rattle.partition_table.specs.Layout.{Places, layout_of, row_for}
-use Rattle.partition_table.specs.Table.{table_of}
+use Rattle.partition_table.specs.Layout.{Places, row_for}
 use Rattle.rollback.specs.declared.rewrite.Rewrite.{Rewrite}
 use Rattle.image_verify.specs.declared.info.ImageInfo.{ImageInfo}
 use Rattle.mmu_map.specs.Map.{Map}
@@ -23,6 +21,7 @@ use Rattle.power_cut.specs.declared.legs.Ran.{Ran}
 use Rattle.power_cut.specs.Device.{IsReady}
 use Rattle.power_cut.specs.Kept.{IsConfirmLeg, IsConfirming, IsSessionLeg, IsStarted}
 use Rattle.power_cut.specs.Update.{Opens}
+use Rattle.duo_run.specs.Both.{HasTable}
 use Rattle.duo_run.specs.Pages.{application_pages, probe_in}
 use Rattle.duo_run.specs.Worker.{WorkerShare}
 
@@ -40,12 +39,6 @@ ConfirmShare layout at write r items =
 abbrev pub ShowsApp : Places → App → ImageInfo → Map → Type 0
 ShowsApp layout app info m =
     IfSome (row_for layout app) (λ row. m ≡ application_pages row.offset info.segments.items)
-
--- the table of a flash, and the layout by it
-pub record HasTable (rows : List Row) (layout : Places) (flash : List ℕ) : Type 0 where
-  pub size : IsFlashSize (length flash)
-  pub table : table_of (take 0xC00 (drop 0x8000 flash)) (length flash) ≡ Ok rows
-  pub layout_is : layout_of rows ≡ Ok layout
 
 -- a session may be run on this device
 pub record MayInstall (rows : List Row) (layout : Places) (aim : Aim) (image : List ℕ)

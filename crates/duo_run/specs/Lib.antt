@@ -5,4 +5,6 @@ pub mod Pages
 pub mod Ends
 pub mod Fresh
 pub mod Driving
+pub mod Jobs
+pub mod Both
 pub mod Legs

@@ -2,8 +2,10 @@
 #![tactic(auto)]
 
 mod actions;
+mod both;
 mod driver;
 mod duo;
+mod job;
 mod laws;
 mod pages;
 mod room;
