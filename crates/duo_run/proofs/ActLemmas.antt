@@ -1,9 +1,8 @@
 -- What a core did for each action.
-use Rattle.std.proofs.Common.{◌≡◌, ◌≢◌, ℕ, ◌+◌, ◌≤◌, List, [], ◌∷◌, ◌++◌, length, Option, Some, None, Result, Ok, Err, ◌⊎◌, inl, inr, refl, sym, ap, subst, ◌∙◌, append-nil, append_assoc, arith}
+use Rattle.std.proofs.Common.{◌≡◌, ◌≢◌, ℕ, List, [], ◌∷◌, ◌++◌, length, Result, Ok, Err, inl, inr, refl, sym, ap, subst, ◌∙◌, arith}
 use Rattle.std.specs.Prelude.{IfOk, IfErr, ◌↔◌}
 use Rattle.arrayvec.specs.ArrayVec.{ArrayVec}
 use Rattle.core_state.specs.declared.registers.Regs.{Regs}
-use Rattle.duo_machine.specs.declared.events.Kind.{Kind}
 use Rattle.nor_device.specs.declared.step.Step.{Step}
 use Rattle.nor_device.specs.declared.nor.NorFault.{NorFault}
 use Rattle.image_layout.specs.declared.space.Space.{Space}
@@ -14,7 +13,6 @@ use Rattle.flash_steps.specs.declared.refusal.PartNo.{PartNo}
 use Rattle.flash_steps.specs.declared.refusal.PartNo.TheVariants as part
 use Rattle.flash_steps.specs.Rules.{erase_checked, write_checked}
 use Rattle.flash_steps.specs.Parts.{part_erase_steps, part_write_steps}
-use Rattle.core_script.specs.declared.action.Action.{Action}
 use Rattle.core_script.specs.declared.action.Action.TheVariants.{Fetch, Mask, Irq, Map, Unmap, Write, Erase}
 use Rattle.bus_hub.specs.declared.entry.Act.{Act}
 use Rattle.bus_hub.specs.declared.entry.Act.TheVariants as acts
@@ -27,8 +25,7 @@ use Rattle.bus_hub.specs.Fetch.{IsServed}
 use Rattle.bus_hub.specs.declared.did.Base.{Base}
 use Rattle.bus_hub.specs.Hub.{needs, byte_needs}
 use Rattle.bus_hub.specs.Log.{IsNote}
-use Rattle.bus_hub.specs.Told.{fetch_items}
-use Rattle.cache_gate.specs.Works.{Works, events_in}
+use Rattle.cache_gate.specs.Works.{events_in}
 use Rattle.cache_gate.specs.Own.{Own, Adds, Keeps, HasFetched, HasRoom, did, saw, set_to}
 use Rattle.cache_gate.proofs.Rooms.{room_added}
 use Rattle.cache_gate.proofs.Walks.{works_first, works_last}
@@ -38,7 +35,7 @@ use Rattle.flash_ops.specs.declared.refusal.StepNo.{StepNo}
 use Rattle.flash_ops.specs.declared.refusal.StepNo.TheVariants.{Device, Cut}
 use Rattle.flash_ops.specs.Told.{HasChanged, barred_by, fault_of}
 use Rattle.flash_ops.proofs.Runs.{adds_then, regs_same}
-use Rattle.duo_run.specs.Worker.{Acted, BreaksOff, HasLeft, HasWritten, mapped_act, note, refused, regs_after, unmapped_act, why_of}
+use Rattle.duo_run.specs.Worker.{BreaksOff, HasWritten, mapped_act, note, refused, unmapped_act, why_of}
 use Rattle.duo_run.specs.Works.{HasActed}
 use Rattle.duo_run.specs.Ends.{NotesEnd, end_act}
 use Rattle.duo_run.proofs.AskLemmas.{room_less}

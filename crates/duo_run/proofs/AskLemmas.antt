@@ -1,14 +1,12 @@
 -- What a core is asked for each action, by what it is asked for the script.
-use Rattle.std.proofs.Common.{◌≡◌, ℕ, ◌+◌, ◌*◌, ◌/◌, ◌%◌, ◌^◌, ◌<◌, ◌≤◌, List, [], ◌∷◌, ◌++◌, length, Option, Some, None, Result, Ok, Err, ◌⊎◌, inl, inr, refl, sym, ap, subst, ◌∙◌, arith}
+use Rattle.std.proofs.Common.{◌≡◌, ℕ, ◌+◌, ◌*◌, ◌/◌, ◌%◌, ◌^◌, ◌<◌, ◌≤◌, List, ◌∷◌, ◌++◌, length, Option, Some, None, Result, Ok, Err, inl, inr, refl, sym, ap, subst, ◌∙◌, arith}
 use Rattle.std.specs.Prelude.{IfOk, IfErr}
 use Rattle.arrayvec.specs.ArrayVec.{ArrayVec}
 use Rattle.core_state.specs.declared.registers.Regs.{Regs}
 use Rattle.nor_device.specs.declared.step.Step.{Step}
-use Rattle.nor_device.specs.declared.nor.NorFault.{NorFault}
 use Rattle.partition_table.specs.declared.row.Row.{Row}
-use Rattle.partition_table.specs.Rules.{FitsFlash}
 use Rattle.flash_steps.specs.declared.refusal.PartNo.{PartNo}
-use Rattle.flash_steps.specs.Rules.{IsOpenFor, IsPartOf, erase_checked, write_checked}
+use Rattle.flash_steps.specs.Rules.{IsOpenFor, erase_checked, write_checked}
 use Rattle.flash_steps.specs.Parts.{steps_in, part_erase_steps, part_write_steps}
 use Rattle.flash_steps.specs.Steps.{erase_steps, write_steps}
 use Rattle.flash_steps.proofs.RuleLemmas.{part_of}
@@ -23,7 +21,7 @@ use Rattle.bus_hub.specs.declared.did.Did.{Did}
 use Rattle.bus_hub.specs.Hub.{needs, byte_needs}
 use Rattle.bus_hub.specs.Shares.{made, moved_by}
 use Rattle.bus_hub.proofs.Parts.{moved_by-append}
-use Rattle.cache_gate.specs.Own.{Own, OnBase, HasRoom, HasRoomIn, IsInside, Keeps, Adds}
+use Rattle.cache_gate.specs.Own.{Own, OnBase, HasRoom, IsInside, Keeps, Adds}
 use Rattle.cache_gate.proofs.Taken.{needs-append, byte_needs-append}
 use Rattle.cache_gate.proofs.Rooms.{room_added, room_kept}
 use Rattle.flash_ops.specs.declared.refusal.OpNo.{OpNo}
@@ -33,7 +31,7 @@ use Rattle.flash_ops.specs.Asked.{GrantsAll, MayMakeAll, CanChange}
 use Rattle.flash_ops.specs.Told.{HasChanged, barred_by}
 use Rattle.flash_ops.proofs.Can.{grants_first, grants_then}
 use Rattle.flash_ops.proofs.Runs.{bytes_for_makes, entries_for_makes, steps_of_makes}
-use Rattle.duo_run.specs.Worker.{BreaksOff, HasEnded, HasLeft, HasWritten, action_steps, regs_after}
+use Rattle.duo_run.specs.Worker.{HasLeft, HasWritten, action_steps, regs_after}
 use Rattle.duo_run.specs.Room.{entries_in, bytes_in}
 use Rattle.duo_run.specs.Works.{CanAct, CanWork, FitsBase, HasActed}
 use Rattle.duo_run.proofs.StepsLemmas.{MakesSteps, made_behind, follows_needs, stops_needs}

@@ -1,5 +1,5 @@
 -- The steps of a script lie in partitions that may be changed.
-use Rattle.std.proofs.Common.{◌≡◌, ℕ, List, [], ◌∷◌, ◌++◌}
+use Rattle.std.proofs.Common.{ℕ, List, [], ◌∷◌, ◌++◌}
 use Rattle.std.specs.List.{AllByRecursion}
 use Rattle.nor_device.specs.declared.step.Step.{Step}
 use Rattle.partition_table.specs.declared.row.Row.{Row}

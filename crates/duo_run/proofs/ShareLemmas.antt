@@ -1,5 +1,5 @@
 -- The steps that the share of a script has made, and the registers that it leaves.
-use Rattle.std.proofs.Common.{◌≡◌, ℕ, ◌+◌, ◌≤◌, List, [], ◌∷◌, ◌++◌, length, Option, None, Result, Ok, Err, ◌⊎◌, inl, inr, refl, sym, ap, subst, ◌∙◌, append-nil}
+use Rattle.std.proofs.Common.{◌≡◌, ℕ, ◌+◌, List, [], ◌∷◌, ◌++◌, length, None, Result, Ok, Err, inl, inr, refl, sym, ap, subst, ◌∙◌, append-nil}
 use Rattle.core_state.specs.declared.registers.Regs.{Regs}
 use Rattle.nor_device.specs.declared.step.Step.{Step}
 use Rattle.nor_device.specs.declared.nor.NorFault.{NorFault}
@@ -12,13 +12,11 @@ use Rattle.flash_steps.specs.Parts.{steps_in, part_erase_steps, part_write_steps
 use Rattle.flash_steps.specs.Steps.{erase_steps, write_steps}
 use Rattle.core_script.specs.declared.action.Action.{Action}
 use Rattle.core_script.specs.declared.action.Action.TheVariants.{Fetch, Mask, Irq, Map, Unmap, Write, Erase}
-use Rattle.bus_hub.specs.declared.entry.Act.{Act}
 use Rattle.bus_hub.specs.declared.entry.Act.TheVariants as acts
 use Rattle.bus_hub.specs.declared.did.Did.{Did}
-use Rattle.bus_hub.specs.declared.did.Did.TheVariants.{Mapping, Unmapping, Noted}
-use Rattle.bus_hub.specs.Shares.{made_from, made}
+use Rattle.bus_hub.specs.Shares.{made}
 use Rattle.duo_run.specs.Worker.{BreaksOff, HasDone, HasEnded, HasLeft, HasStopped, HasWritten, IsFirstPart, ShareFrom, action_steps, mapped_act, note, regs_after, regs_at, regs_by, regs_by_act, unmapped_act, worker_steps}
-use Rattle.duo_run.proofs.StepsLemmas.{MakesSteps, MakesSome, made_behind, makes_none, makes_then, makes_then_some, some_of_more, follows_makes, stops_makes, regs_by-append, follows_regs, stops_regs}
+use Rattle.duo_run.proofs.StepsLemmas.{MakesSteps, MakesSome, makes_none, makes_then, makes_then_some, some_of_more, follows_makes, stops_makes, regs_by-append, follows_regs, stops_regs}
 
 -- ---- one action
 

@@ -1,13 +1,11 @@
 -- Lists of items by the steps that they end whole, whatever was open before.
-use Rattle.std.proofs.Common.{◌≡◌, ℕ, ◌+◌, ◌*◌, ◌≤◌, List, [], ◌∷◌, ◌++◌, length, Option, Some, None, ◌⊎◌, inl, inr, refl, sym, ap, subst, ◌∙◌, append-nil, append_assoc, arith}
+use Rattle.std.proofs.Common.{◌≡◌, ℕ, ◌+◌, ◌*◌, ◌≤◌, List, [], ◌∷◌, ◌++◌, length, Option, None, inl, inr, refl, sym, ap, ◌∙◌, append_assoc, arith}
 use Rattle.core_state.specs.declared.registers.Regs.{Regs}
-use Rattle.core_state.specs.Registers.{masked}
 use Rattle.nor_device.specs.declared.step.Step.{Step}
 use Rattle.nor_device.specs.declared.nor.NorFault.{NorFault}
 use Rattle.bus_hub.specs.declared.did.Did.{Did}
-use Rattle.bus_hub.specs.declared.did.Did.TheVariants.{Opened, Closed, Broken, Fetched, Noted, Denied, Mapping, Unmapping, Missed, Masked}
 use Rattle.bus_hub.specs.Hub.{needs, byte_needs}
-use Rattle.bus_hub.specs.Shares.{Begun, open_after, open_from, made_by, made_from}
+use Rattle.bus_hub.specs.Shares.{Begun, open_from, made_from}
 use Rattle.flash_ops.specs.Moves.{makes, Follows, Stops}
 use Rattle.flash_ops.proofs.Runs.{byte_needs_follows, bytes_for_makes, entries_for_makes, made_follows, made_from-append, needs_follows, steps_of_makes}
 use Rattle.duo_run.specs.Worker.{IsFirstPart, regs_by, regs_by_item}

@@ -1,5 +1,5 @@
 -- One action of a script behind the other.
-use Rattle.std.proofs.Common.{◌≡◌, ℕ, zero, suc, ◌+◌, ◌≤◌, List, [], ◌∷◌, ◌++◌, length, drop, Option, Some, None, Result, Ok, Err, inl, inr, refl, sym, ap, subst, ◌∙◌, append-nil, add-one, arith}
+use Rattle.std.proofs.Common.{◌≡◌, ℕ, zero, suc, ◌+◌, ◌≤◌, List, [], ◌∷◌, ◌++◌, length, drop, Some, Result, Ok, Err, inl, inr, refl, sym, ap, subst, ◌∙◌, add-one, arith}
 use Rattle.std.specs.List.{slice_get}
 use Rattle.core_state.specs.declared.registers.Regs.{Regs}
 use Rattle.nor_device.specs.declared.step.Step.{Step}
@@ -14,7 +14,7 @@ use Rattle.flash_ops.specs.declared.refusal.StepNo.{StepNo}
 use Rattle.flash_ops.specs.declared.refusal.StepNo.TheVariants.{Device, Cut}
 use Rattle.flash_ops.specs.Told.{fault_of}
 use Rattle.flash_ops.proofs.Runs.{adds_none, adds_then, keeps_same}
-use Rattle.duo_run.specs.Worker.{HasDone, HasLeft, HasStopped, ShareFrom, regs_after, regs_by}
+use Rattle.duo_run.specs.Worker.{HasLeft, ShareFrom, regs_after, regs_by}
 use Rattle.duo_run.specs.Works.{CanAct, CanWork, HasActed, HasWorked, HasWorkedFrom}
 use Rattle.duo_run.proofs.StepsLemmas.{regs_by-append}
 use Rattle.duo_run.proofs.ShareLemmas.{ended_regs, left_regs}
@@ -97,8 +97,8 @@ dropped [] (suc i) behind = refl
 dropped (x ∷ xs) zero behind = absurd (omega arith)
 dropped (x ∷ xs) (suc i) behind = dropped xs i (omega arith)
 
--- so many actions of a script were done: those to come can be done, and whatever they come to, the
--- whole script does
+-- so many actions of a script were done: those to come can be done, and whatever they come to,
+-- the whole script does
 pub record IsAt {S K P : Type 0} (part : K → ℕ → P) (grants : P → Step → Type 0)
     (moved : P → Step → P) (rows : List Row) (script : List Action) (i : ℕ)
     (o o' : Own (Base S K) Did) : Type 0 where

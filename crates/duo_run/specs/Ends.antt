@@ -1,5 +1,5 @@
 -- How the end of a write or an erase of a partition is noted.
-use Rattle.std.specs.Prelude.{◌≡◌, ℕ, [], ◌∷◌, Result, Ok, Err}
+use Rattle.std.specs.Prelude.{◌≡◌, ℕ, Result, Ok, Err}
 use Rattle.bus_hub.specs.declared.entry.Act.{Act}
 use Rattle.bus_hub.specs.declared.entry.Act.TheVariants as acts
 use Rattle.bus_hub.specs.declared.entry.Why.TheVariants as whys

@@ -5,8 +5,8 @@ use Rattle.core_script.specs.declared.action.Action.{Action}
 use Rattle.core_script.specs.declared.action.Action.TheVariants.{Fetch, Mask, Irq, Map, Unmap, Write, Erase}
 use Rattle.core_script.specs.Action.{sectors_in}
 
--- the entries of an action: its own one, and two for each of its steps. A write is one program, since
--- it stays in a page
+-- the entries of an action: its own one, and two for each of its steps. A write is one program,
+-- since it stays in a page
 abbrev pub entries_in : Action → ℕ
 entries_in (Fetch at len) = 1
 entries_in (Mask mask) = 1

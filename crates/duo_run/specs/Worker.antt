@@ -200,8 +200,8 @@ abbrev pub ShareFrom : List Row → ℕ → Regs → List Action → Result (Uni
 ShareFrom rows k regs script (Ok _) share = HasDone rows k regs script share
 ShareFrom rows k regs script (Err why) share = HasStopped rows why k regs script share
 
--- the share of the second core, which began with these registers. Its first action has the number 1;
--- how often it was parked changes nothing
+-- the share of the second core, which began with these registers. Its first action has the number
+-- 1; how often it was parked changes nothing
 abbrev pub WorkerShare : List Row → Regs → List Action → Result (Unit {0}) NorFault → List Did
     → Type 0
 WorkerShare rows regs script end share = ShareFrom rows 1 regs script end share

@@ -1,5 +1,5 @@
 -- What the second core has to be to work on its script, and what it is then.
-use Rattle.std.specs.Prelude.{◌≡◌, ◌<◌, ◌≤◌, ◌^◌, ℕ, List, length, Result}
+use Rattle.std.specs.Prelude.{◌<◌, ◌≤◌, ◌^◌, ℕ, List, length, Result}
 use Rattle.nor_device.specs.declared.step.Step.{Step}
 use Rattle.nor_device.specs.declared.nor.NorFault.{NorFault}
 use Rattle.partition_table.specs.declared.row.Row.{Row}

@@ -218,8 +218,8 @@ fn erase<'w, R: Wait, D: Crash, K: Duty>(
     note_end(rt, core, k, end)
 }
 
-/// Does an action of the script, under its number. What the core refuses is noted; an answer by which
-/// the device ended it is handed on.
+/// Does an action of the script, under its number. What the core refuses is noted; an answer by
+/// which the device ended it is handed on.
 pub(crate) fn act<'w, R: Wait, D: Crash, K: Duty>(
     rt: &R,
     core: Core<'w, D, K>,

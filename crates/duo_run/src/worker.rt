@@ -12,8 +12,8 @@ use flash_ops::{Pace, Point, StepNo};
 use partition_table::Table;
 use std::sync::Wait;
 
-/// Does the actions of the script in order, and serves its gate after each. What the core refuses is
-/// noted, and the script goes on; where the device refuses, the work is over. The pace is called
+/// Does the actions of the script in order, and serves its gate after each. What the core refuses
+/// is noted, and the script goes on; where the device refuses, the work is over. The pace is called
 /// before and behind each action.
 pub(crate) fn work<'w, R: Wait, D: Crash, K: Duty, P: Pace>(
     rt: &R,

@@ -132,7 +132,7 @@ unfolding write_moves
 write_nothing probe at =
     ap (λ (s : List Step). by_sixteen (periods_of s) probe s) (no_steps at)
 
-pages_are : (at len : ℕ) → 1 ≤ len → pages_in at len ≡ (at % 256 + len + 255) / 256
+pub pages_are : (at len : ℕ) → 1 ≤ len → pages_in at len ≡ (at % 256 + len + 255) / 256
 unfolding pages_in
 pages_are at len some = by (len == 0) refl
   where
@@ -262,7 +262,7 @@ pub periods_done : (at : ℕ) (bytes : List ℕ) → length bytes ≡ 0
 periods_done at [] none = ap periods_of (no_steps at)
 periods_done at (byte ∷ bytes) none = absurd (omega arith)
 
-no_pages : (at : ℕ) → pages_in at 0 ≡ 0
+pub no_pages : (at : ℕ) → pages_in at 0 ≡ 0
 unfolding pages_in
 no_pages at = refl
 

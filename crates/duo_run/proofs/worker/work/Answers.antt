@@ -1,4 +1,4 @@
-use Rattle.std.proofs.Common.{Ok, ap, arith}
+use Rattle.std.proofs.Common.{arith}
 use Rattle.duo_run.proofs.WorkLemmas.{acted_keeps, at_can, at_end, at_next, at_stop, dropped}
 use Rattle.duo_run.proofs.worker.work.Goals as goal
 
