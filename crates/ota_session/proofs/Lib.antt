@@ -8,6 +8,8 @@ pub mod BootLemmas
 pub mod ReadLemmas
 pub mod MomentLemmas
 pub mod MoveLemmas
+pub mod SessionLemmas
 pub mod StageLemmas
 pub mod EntryLemmas
+pub mod ReadBackLemmas
 pub mod SealLemmas

@@ -56,7 +56,7 @@ write_front at n image within begins (inr all) = (
 -- ---- the steps by the cases of the image
 
 -- no sector is erased by no step
-no_erases : (at : ℕ) → erase_steps at 0 ≡ []
+pub no_erases : (at : ℕ) → erase_steps at 0 ≡ []
 unfolding erase_steps erases
 no_erases at = refl
 

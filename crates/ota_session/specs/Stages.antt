@@ -148,7 +148,7 @@ module _ {S : Type 0} where
     pub drives : Drives layout (Install aim image)
         (slot_erases row.offset image ++ write_steps row.offset (take w.written image)) w.core
 
-  -- the session has made the erases and the programs of its whole image
+  -- the session has made the erases and the programs of all bytes of its image
   pub record IsWritten (target : Target) (o : Own (Base S Course) Did) : Type 0 where
     pub layout : Places
     pub aim : Aim
@@ -156,12 +156,12 @@ module _ {S : Type 0} where
     pub row : Row
     pub row_is : slice_get layout.slots aim.slot ≡ Some row
     pub target_is : target ≡ target_of layout row aim
+    pub marked : take 1 image ≡ 0xE9 ∷ []
     pub drives : Drives layout (Install aim image) (data_steps row.offset image) o
 
   -- and the image is whole within the slot
   pub record IsVerified (v : Verified (Base S Course)) : Type 0 where
     pub written : IsWritten v.target v.core
-    pub marked : take 1 (image_of v.core.base) ≡ 0xE9 ∷ []
     pub whole : bad v.target.size (image_of v.core.base) ≡ None
 
   -- the bytes are the next ones of the image: at least one, as many as are left or whole pages
