@@ -38,14 +38,14 @@ use Rattle.ota_session.specs.Course.{Confirm, Confirms, Course, Grants, Install,
 use Rattle.ota_session.proofs.MoveLemmas.{steps_of_entry}
 use Rattle.ota_session.proofs.OpeningLemmas.{opening_good}
 use Rattle.ota_session.proofs.PartLemmas.{other_may}
+use Rattle.ota_session.proofs.SessionLemmas.{steps_of_session}
 use Rattle.duo_run.specs.Both.{CanRunBoth, MayBegin, leg_base, rooms_of}
-use Rattle.duo_run.specs.Jobs.{CanDrive, IsAsLong, driver_room, length_for, moves_for}
+use Rattle.duo_run.specs.Jobs.{CanDrive, IsAsLong, driver_room, length_for, most_moves_for, moves_for}
 use Rattle.duo_run.specs.Pages.{AreInPlace, application_pages, probe_in}
 use Rattle.duo_run.specs.Room.{bytes_of, entries_of, worker_room}
 use Rattle.duo_run.specs.Worker.{worker_steps}
 use Rattle.duo_run.specs.Works.{CanWork}
 use Rattle.duo_run.proofs.DriverRoomLemmas.{NeedsAtMost, entry_needs, session_needs}
-use Rattle.duo_run.proofs.DriverStepsLemmas.{session_steps}
 use Rattle.duo_run.proofs.OpenLemmas.{script_inside}
 use Rattle.duo_run.proofs.PageLemmas.{in_larger, probe_is_fixed}
 
@@ -105,7 +105,7 @@ confirm_long layout first write placed is =
 needed : (layout : Places) (first : List ℕ) (purpose : Purpose) (probe : Option ℕ)
     → IsPlaced layout (length first) → IsFor layout first purpose
     → NeedsAtMost (driver_room (length_for purpose)).entries (driver_room (length_for purpose)).bytes
-    (moves_for layout purpose probe)
+    (most_moves_for layout purpose probe)
 needed layout first (Install aim image) probe placed for =
     let begins = for.opens.begins in
     let sectors = aligned_row (length first) begins.row
@@ -124,11 +124,9 @@ moves_steps : (layout : Places) (first : List ℕ) (purpose : Purpose) (probe : 
     → IsPlaced layout (length first) → IsFor layout first purpose
     → steps_of (moves_for layout purpose probe) ≡ steps_for layout purpose
 moves_steps layout first (Install aim image) probe placed for =
-    let begins = for.opens.begins in
     let label = for.opens.stored.sized.label in
     let long = length-entry_bytes aim.next.entry in
-    session_steps layout aim probe image begins.row begins.row_is for.opens.length_is placed.aligned
-    (omega arith)
+    steps_of_session layout aim probe placed.aligned (omega arith) image for.opens.length_is
 moves_steps layout first (Confirm write) probe placed for =
     steps_of_entry probe layout.otadata write placed.aligned
     (confirm_long layout first write placed for)

@@ -7,24 +7,20 @@ use Rattle.partition_table.specs.declared.row.Row.{Row}
 use Rattle.partition_table.specs.Layout.{Places}
 use Rattle.otadata.specs.Entry.{entry_bytes}
 use Rattle.rollback.specs.declared.rewrite.Rewrite.{Rewrite}
-use Rattle.image_verify.specs.declared.bad.BadImage.{BadImage}
-use Rattle.image_verify.specs.Bad.{bad}
 use Rattle.boot_run.specs.declared.aims.Aim.{Aim}
 use Rattle.flash_steps.specs.Steps.{pages_in, write_steps}
 use Rattle.flash_steps.proofs.WriteLemmas.{count_of_write}
 use Rattle.update_steps.specs.Driver.{next_rewrite, whole_sectors}
-use Rattle.flash_ops.specs.Moves.{Move, bytes_for, entries_for, erase_moves, looks, periods_of, read_moves, write_moves}
+use Rattle.flash_ops.specs.Moves.{Move, bytes_for, entries_for, erase_moves, periods_of, write_moves}
 use Rattle.flash_ops.proofs.Runs.{bytes_for-append, entries_for-append}
-use Rattle.flash_ops.proofs.Pieces.{bytes_of_erase, bytes_of_write, entries_of_erase, entries_of_read, entries_of_write}
-use Rattle.ota_session.specs.Stages.{begin_moves, closing_moves, confirm_moves, entry_moves, image_moves, in_slot, session_moves, slot_moves}
+use Rattle.flash_ops.proofs.Pieces.{bytes_of_erase, bytes_of_write, entries_of_erase, entries_of_write}
+use Rattle.ota_session.specs.Stages.{begin_moves, entry_moves, in_slot, slot_moves}
+use Rattle.duo_run.specs.Driving.{all_moves}
 
 -- moves need at most so many entries and bytes
 pub record NeedsAtMost (entries bytes : ℕ) (moves : List Move) : Type 0 where
   pub entries_are : entries_for moves ≤ entries
   pub bytes_are : bytes_for moves ≤ bytes
-
-need_none : (entries bytes : ℕ) → NeedsAtMost entries bytes []
-need_none entries bytes = record { entries_are = omega arith; bytes_are = omega arith }
 
 need_both : (e f n m : ℕ) (a b : List Move) → NeedsAtMost e n a → NeedsAtMost f m b
     → NeedsAtMost (e + f) (n + m) (a ++ b)
@@ -105,66 +101,29 @@ entry_needs probe otadata write aligned long =
     (write_moves probe at (entry_bytes write.entry)) (erase_needs probe at 4096)
     (write_needs probe at (entry_bytes write.entry) (omega arith)))
 
-read_needs : (len : ℕ) → NeedsAtMost 0 0 (read_moves len)
-read_needs len =
-    let r = entries_of_read len in
-    let e = r.0 in
-    let b = r.1 in
-    record { entries_are = omega arith; bytes_are = omega arith }
-
-closing_needs : (found : Option BadImage) (reads entry : List Move) → NeedsAtMost 0 0 reads
-    → NeedsAtMost 6 8 entry → NeedsAtMost 6 8 (closing_moves found reads entry)
-closing_needs None reads entry x y = need_both 0 6 0 8 reads entry x y
-closing_needs (Some why) reads entry x y = need_less 0 6 0 8 reads (omega arith) (omega arith) x
-
-image_needs : (probe : Option ℕ) (otadata : ℕ) (row : Row) (next : Rewrite) (image : List ℕ)
-    → otadata % 4096 ≡ 0 → length (entry_bytes next.entry) ≡ 32 → row.offset % 256 ≡ 0
-    → NeedsAtMost ((2 * ((length image + 255) / 256) + (length image + 4095) / 4096) + 6)
-    (4 * ((length image + 4095) / 4096) + 8) (image_moves probe otadata row next image)
-image_needs probe otadata row next [] aligned long begins = need_none _ _
-image_needs probe otadata row next (byte ∷ bytes) aligned long begins = by (byte == 0xE9)
-  where
-    image : List ℕ
-    image = byte ∷ bytes
-
-    closing : List Move
-    closing = closing_moves (bad row.size image) (read_moves (length image))
-        (entry_moves probe otadata next)
-
-    by : (mark : Bool)
-        → NeedsAtMost ((2 * ((length image + 255) / 256) + (length image + 4095) / 4096) + 6)
-        (4 * ((length image + 4095) / 4096) + 8)
-        (if mark then write_moves probe row.offset image ++ closing else [])
-    by true = need_both (2 * ((length image + 255) / 256) + (length image + 4095) / 4096) 6
-        (4 * ((length image + 4095) / 4096)) 8 (write_moves probe row.offset image) closing
-        (write_needs probe row.offset image begins)
-        (closing_needs (bad row.size image) (read_moves (length image))
-        (entry_moves probe otadata next) (read_needs (length image))
-        (entry_needs probe otadata next aligned long))
-    by false = need_none _ _
-
--- a whole session
+-- a whole session, whatever its bytes are
 pub session_needs : (layout : Places) (aim : Aim) (probe : Option ℕ) (image : List ℕ) (row : Row)
     → slice_get layout.slots aim.slot ≡ Some row → length image ≡ aim.length
     → layout.otadata % 4096 ≡ 0 → length (entry_bytes (next_rewrite aim).entry) ≡ 32
     → row.offset % 256 ≡ 0
     → NeedsAtMost (4 * ((length image + 4095) / 4096) + 2 * ((length image + 255) / 256) + 6)
-    (8 * ((length image + 4095) / 4096) + 8) (session_moves layout aim probe image)
-unfolding session_moves begin_moves
+    (8 * ((length image + 4095) / 4096) + 8) (all_moves layout aim probe image)
+unfolding begin_moves
 session_needs layout aim probe image row is long aligned label begins =
     let slot : List Move = slot_moves probe row.offset aim.length in
-    let behind : List Move = image_moves probe layout.otadata row (next_rewrite aim) image in
-    subst (λ (o : Option Row). NeedsAtMost (4 * ((length image + 4095) / 4096)
-    + 2 * ((length image + 255) / 256) + 6) (8 * ((length image + 4095) / 4096) + 8)
+    let writes : List Move = write_moves probe row.offset image in
+    let entry : List Move = entry_moves probe layout.otadata (next_rewrite aim) in
+    let sectors : ℕ = (length image + 4095) / 4096 in
+    let pages : ℕ = (length image + 255) / 256 in
+    subst (λ (o : Option Row). NeedsAtMost (4 * sectors + 2 * pages + 6) (8 * sectors + 8)
     (in_slot o (λ (r : Row). slot_moves probe r.offset aim.length) ++ in_slot o (λ (r : Row).
-    image_moves probe layout.otadata r (next_rewrite aim) image))) (sym is)
-    (need_less (3 * (whole_sectors aim.length / 4096)
-    + ((2 * ((length image + 255) / 256) + (length image + 4095) / 4096) + 6))
-    (4 * ((length image + 4095) / 4096) + 2 * ((length image + 255) / 256) + 6)
-    (4 * (whole_sectors aim.length / 4096) + (4 * ((length image + 4095) / 4096) + 8))
-    (8 * ((length image + 4095) / 4096) + 8) (slot ++ behind) (omega arith) (omega arith)
-    (need_both (3 * (whole_sectors aim.length / 4096))
-    ((2 * ((length image + 255) / 256) + (length image + 4095) / 4096) + 6)
-    (4 * (whole_sectors aim.length / 4096)) (4 * ((length image + 4095) / 4096) + 8) slot behind
+    write_moves probe r.offset image ++ entry))) (sym is)
+    (need_less (3 * (whole_sectors aim.length / 4096) + ((2 * pages + sectors) + 6))
+    (4 * sectors + 2 * pages + 6) (4 * (whole_sectors aim.length / 4096) + (4 * sectors + 8))
+    (8 * sectors + 8) (slot ++ (writes ++ entry)) (omega arith) (omega arith)
+    (need_both (3 * (whole_sectors aim.length / 4096)) ((2 * pages + sectors) + 6)
+    (4 * (whole_sectors aim.length / 4096)) (4 * sectors + 8) slot (writes ++ entry)
     (erase_needs probe row.offset (whole_sectors aim.length))
-    (image_needs probe layout.otadata row (next_rewrite aim) image aligned label begins)))
+    (need_both (2 * pages + sectors) 6 (4 * sectors) 8 writes entry
+    (write_needs probe row.offset image begins)
+    (entry_needs probe layout.otadata (next_rewrite aim) aligned label))))

@@ -9,9 +9,9 @@ mod RoomLemmas
 mod FreshLemmas
 mod PlaceLemmas
 mod DriverRoomLemmas
-mod DriverStepsLemmas
 mod ShareEndLemmas
 mod DriveLemmas
 mod BeginLemmas
 mod HoldsLemmas
 mod OutcomeLemmas
+mod NumberLemmas

@@ -1,6 +1,6 @@
 -- What the core that drives is to do, in one of both kinds of leg: to install an image, or to confirm
 -- the application that runs.
-use Rattle.std.specs.Prelude.{◌≡◌, ℕ, ◌+◌, ◌*◌, ◌/◌, Bool, List, [], Option, Some, None, IfOk, Result, Ok, Err, length}
+use Rattle.std.specs.Prelude.{◌≡◌, ℕ, ◌+◌, ◌*◌, ◌/◌, Bool, List, [], Option, IfOk, Result, length}
 use Rattle.core_state.specs.Registers.{reset}
 use Rattle.nor_device.specs.declared.nor.NorFault.{NorFault}
 use Rattle.partition_table.specs.Layout.{Places}
@@ -20,7 +20,7 @@ use Rattle.power_cut.specs.declared.legs.LegEnd.TheVariants.{Done}
 use Rattle.power_cut.specs.Update.{HoldsRewrite, HoldsUpdate, session_end, slot_size}
 use Rattle.duo_run.specs.declared.job.Job.{Job}
 use Rattle.duo_run.specs.declared.job.Job.TheVariants as jobs
-use Rattle.duo_run.specs.Driving.{ended_as}
+use Rattle.duo_run.specs.Driving.{all_moves, ended_as}
 
 -- what the steps of a job are for
 abbrev pub purpose_of : Job → Purpose
@@ -36,6 +36,11 @@ IsAsLong (Confirm write) = Unit {0}
 abbrev pub moves_for : Places → Purpose → Option ℕ → List Move
 moves_for layout (Install aim image) probe = session_moves layout aim probe image
 moves_for layout (Confirm write) probe = confirm_moves layout write probe
+
+-- all moves that it may come to, whatever the bytes of an image are
+abbrev pub most_moves_for : Places → Purpose → Option ℕ → List Move
+most_moves_for layout (Install aim image) probe = all_moves layout aim probe image
+most_moves_for layout (Confirm write) probe = confirm_moves layout write probe
 
 -- the end of a leg in which nothing broke off
 abbrev pub end_for : Places → Purpose → LegEnd
@@ -69,7 +74,7 @@ module _ {S : Type 0} where
   pub record CanDrive (layout : Places) (purpose : Purpose) (probe : Option ℕ)
       (o : Own (Base S Course) Did) : Type 0 where
     pub drives : Drives layout purpose [] o
-    pub room : HasRoomFor o.base o.core o.share (moves_for layout purpose probe)
+    pub room : HasRoomFor o.base o.core o.share (most_moves_for layout purpose probe)
     pub look : CanLook o.base o.regs probe
 
   -- it did, as far as the device let it

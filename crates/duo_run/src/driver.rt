@@ -4,10 +4,10 @@ ghost use Rattle.std.specs.Prelude.{◌≡◌, ◌+◌, ◌≤◌, [], Ok, Err, 
 ghost use Rattle.bus_hub.specs.declared.did.Base.{Base};
 ghost use Rattle.flash_ops.specs.Asked.{CanLook, HasRoomFor};
 ghost use Rattle.flash_ops.specs.Moves.{HasRun, write_moves};
-ghost use Rattle.ota_session.specs.Stages.{IsToConfirm, IsWriting, confirm_moves, image_of, session_moves};
+ghost use Rattle.ota_session.specs.Stages.{IsToConfirm, IsWriting, confirm_moves, entry_moves, image_of, session_moves};
 ghost use Rattle.power_cut.specs.declared.legs.LegEnd.TheVariants.{Done};
 ghost use Rattle.power_cut.specs.Update.{session_end, slot_size};
-ghost use Rattle.duo_run.specs.Driving.{HasWrittenAll, IsNotAllWritten, IsToInstall, closed_end, ended_as, seal_moves};
+ghost use Rattle.duo_run.specs.Driving.{HasWrittenAll, IsNotAllWritten, IsToInstall, all_moves, closed_end, ended_as, seal_moves, unsealed_as, unwritten_as};
 
 use boot_run::Aim;
 use cache_gate::Core;
@@ -35,7 +35,7 @@ pub(crate) fn install<'w, 'a, R: Wait, D: Crash, P: Pace>(
 ) -> (Core<'w, D, UpdateDuty<'a>>, Result<LegEnd, StepNo>)
     requires session { IsToInstall layout.now aim.now image.now core }
     requires room { HasRoomFor core.base core.core core.share
-        (session_moves layout.now aim.now beat.old.probe image.now) }
+        (all_moves layout.now aim.now beat.old.probe image.now) }
     requires look { CanLook core.base core.regs beat.old.probe }
     ensures ran { HasRun 0 (session_moves layout.now aim.now beat.old.probe image.now)
         (ended_as result.1) core.entry result.0 }
@@ -94,7 +94,9 @@ fn split_at_most(bytes: &[u8], most: usize) -> (&[u8], &[u8])
 }
 
 /// How a session ends whose image was not written to its end.
-fn unwritten(no: WriteNo) -> Result<LegEnd, StepNo> {
+fn unwritten(no: WriteNo) -> Result<LegEnd, StepNo>
+    ensures exact { result ≡ unwritten_as no }
+{
     match no {
         WriteNo::FirstByte { byte } => Ok(LegEnd::FirstByte { byte }),
         WriteNo::Device => Err(StepNo::Device),
@@ -111,7 +113,7 @@ fn seal<'w, 'a, R: Wait, D: Crash, P: Pace>(
     requires session { IsWriting ota }
     requires whole { ota.written ≡ ota.target.length }
     requires room { HasRoomFor ota.core.base ota.core.core ota.core.share
-        (seal_moves beat.old.probe ota (image_of ota.core.base)) }
+        (entry_moves beat.old.probe ota.target.otadata ota.target.next) }
     requires look { CanLook ota.core.base ota.core.regs beat.old.probe }
     ensures ran { HasRun 0 (seal_moves beat.old.probe ota.entry (image_of ota.entry.core.base))
         (ended_as result.1) ota.entry.core result.0 }
@@ -128,7 +130,9 @@ fn seal<'w, 'a, R: Wait, D: Crash, P: Pace>(
 }
 
 /// How a session ends whose image is not announced.
-fn unsealed(no: EndNo) -> Result<LegEnd, StepNo> {
+fn unsealed(no: EndNo) -> Result<LegEnd, StepNo>
+    ensures exact { result ≡ unsealed_as no }
+{
     match no {
         EndNo::Empty => Ok(LegEnd::Empty),
         EndNo::Bad(bad) => Ok(LegEnd::Bad(bad)),
