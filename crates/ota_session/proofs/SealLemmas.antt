@@ -30,7 +30,8 @@ use Rattle.ota_session.specs.Course.{Confirm, Confirms, Course, Grants, Install,
 use Rattle.ota_session.specs.GoodLaws.{placed}
 use Rattle.ota_session.specs.declared.target.Target.{Target}
 use Rattle.ota_session.specs.Stages.{Drives, IsToConfirm, IsVerified, IsWriting, IsWritten, Verified, Writing, confirm_moves, entry_moves, image_of, target_of}
-use Rattle.ota_session.specs.SessionTold.{HasVerified, IsNotVerified, cause_of, found_as}
+use Rattle.ota_session.specs.SessionTold.{HasVerified, IsNotVerified, cause_of, found_as, unread_by}
+use Rattle.ota_session.specs.declared.refusal.EndNo.{EndNo}
 use Rattle.ota_session.specs.declared.refusal.EndNo.TheVariants as ends
 use Rattle.ota_session.proofs.MoveLemmas.{data_front}
 use Rattle.ota_session.proofs.StageLemmas.{drives_as, drives_inside, drives_may, image_is, installs, ran_err, ran_ok, slot}
@@ -286,24 +287,29 @@ module _ {S : Type 0} (w self : Writing (Base S Course)) (same : w ≡ self) (is
       (r : Result (Option BadImage) StepNo)
       (run : HasRun 0 (read_moves w.target.length) (found_as r) w.core p)
       (exact : IfOk r (λ found. bad w.target.size (image_of w.core.base) ≡ found)) where
-    pub verified_at : r ≡ Ok None → HasVerified self (record { core = p; target = w.target })
-    verified_at fine = subst (λ (x : Writing (Base S Course)).
+    pub verified_at : (found : Option BadImage) → r ≡ Ok found → found ≡ None
+        → HasVerified self (record { core = p; target = w.target })
+    verified_at found fine none = subst (λ (x : Writing (Base S Course)).
         HasVerified x (record { core = p; target = w.target })) same
-        (has_verified w is_here all_here some p r run exact fine)
+        (has_verified w is_here all_here some p r run exact
+        (fine ∙ ap (λ (x : Option BadImage). Ok x) none))
 
-    pub faulty_at : (why : BadImage) → r ≡ Ok (Some why)
+    pub faulty_at : (found : Option BadImage) (why : BadImage) → r ≡ Ok found → found ≡ Some why
         → IsNotVerified (image_of self.core.base) self (ends.Bad why) p
-    faulty_at why fine = subst (λ (x : Writing (Base S Course)).
+    faulty_at found why fine some_why = subst (λ (x : Writing (Base S Course)).
         IsNotVerified (image_of x.core.base) x (ends.Bad why) p) same
-        (is_faulty w is_here all_here some p r run exact why fine)
+        (is_faulty w is_here all_here some p r run exact why
+        (fine ∙ ap (λ (x : Option BadImage). Ok x) some_why))
 
-    pub failed_at : r ≡ Err steps.Device
-        → IsNotVerified (image_of self.core.base) self ends.Device p
-    failed_at fault = subst (λ (x : Writing (Base S Course)).
-        IsNotVerified (image_of x.core.base) x ends.Device p) same
-        (not_read w is_here all_here some p r run exact steps.Device fault)
-
-    pub cut_at : r ≡ Err steps.Cut → IsNotVerified (image_of self.core.base) self ends.Cut p
-    cut_at fault = subst (λ (x : Writing (Base S Course)).
-        IsNotVerified (image_of x.core.base) x ends.Cut p) same
-        (not_read w is_here all_here some p r run exact steps.Cut fault)
+    pub unread_at : (why : StepNo) (told : EndNo) → r ≡ Err why → told ≡ unread_by why
+        → IsNotVerified (image_of self.core.base) self told p
+    unread_at why told fault is_told = subst (λ (x : Writing (Base S Course)).
+        IsNotVerified (image_of x.core.base) x told p) same
+        (subst (λ (x : EndNo). IsNotVerified (image_of w.core.base) w x p) (sym is_told)
+        (by why (not_read w is_here all_here some p r run exact why fault)))
+      where
+        by : (why : StepNo) → (image_of w.core.base ≢ [])
+            × HasRun 0 (read_moves w.written) (Err (cause_of why)) w.core p
+            → IsNotVerified (image_of w.core.base) w (unread_by why) p
+        by steps.Device told = told
+        by steps.Cut told = told

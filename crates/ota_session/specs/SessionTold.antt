@@ -29,6 +29,11 @@ abbrev pub found_as : Result (Option BadImage) StepNo → Result (Unit {0}) NorF
 found_as (Ok found) = Ok tt
 found_as (Err why) = Err (cause_of why)
 
+-- why bytes are not announced that could not be read back
+abbrev pub unread_by : StepNo → EndNo
+unread_by steps.Device = ends.Device
+unread_by steps.Cut = ends.Cut
+
 -- the first byte of the session, where this piece has it and it is not that of an image
 unfoldable pub wrong_byte : ℕ → List ℕ → Option ℕ
 wrong_byte written [] = None

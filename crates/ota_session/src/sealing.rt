@@ -6,7 +6,7 @@ ghost use Rattle.bus_hub.specs.declared.did.Base.{Base};
 ghost use Rattle.flash_ops.specs.Asked.{CanLook, HasRoomFor};
 ghost use Rattle.flash_ops.specs.Moves.{HasRun};
 ghost use Rattle.ota_session.specs.Stages.{IsVerified, IsWriting, entry_moves, image_of};
-ghost use Rattle.ota_session.specs.SessionTold.{HasVerified, IsNotVerified, cause_of};
+ghost use Rattle.ota_session.specs.SessionTold.{HasVerified, IsNotVerified, cause_of, unread_by};
 
 use crate::duty::UpdateDuty;
 use crate::entries::rewrite_entry;
@@ -66,21 +66,32 @@ impl<'w, 'a, D: Crash> Ota<'w, D, UpdateDuty<'a>> {
             });
         }
         let (core, found) = read_back(rt, core, &target);
+        let found = match found {
+            Ok(found) => found,
+            Err(why) => {
+                return Err(Back {
+                    core,
+                    no: unread(why),
+                });
+            }
+        };
         match found {
-            Ok(None) => Ok(Sealed { core, target }),
-            Ok(Some(bad)) => Err(Back {
+            None => Ok(Sealed { core, target }),
+            Some(bad) => Err(Back {
                 core,
                 no: EndNo::Bad(bad),
             }),
-            Err(StepNo::Device) => Err(Back {
-                core,
-                no: EndNo::Device,
-            }),
-            Err(StepNo::Cut) => Err(Back {
-                core,
-                no: EndNo::Cut,
-            }),
         }
+    }
+}
+
+/// Why the bytes are not announced that could not be read back.
+fn unread(why: StepNo) -> EndNo
+    ensures exact { result ≡ unread_by why }
+{
+    match why {
+        StepNo::Device => EndNo::Device,
+        StepNo::Cut => EndNo::Cut,
     }
 }
 
