@@ -39,7 +39,7 @@ use Rattle.ota_session.proofs.MoveLemmas.{steps_of_entry}
 use Rattle.ota_session.proofs.OpeningLemmas.{opening_good}
 use Rattle.ota_session.proofs.PartLemmas.{other_may}
 use Rattle.ota_session.proofs.SessionLemmas.{steps_of_session}
-use Rattle.duo_run.specs.Both.{CanRunBoth, MayBegin, leg_base, rooms_of}
+use Rattle.duo_run.specs.Both.{CanRunBoth, MayBegin, base_with, leg_base, rooms_of}
 use Rattle.duo_run.specs.Jobs.{CanDrive, IsAsLong, driver_room, length_for, most_moves_for, moves_for}
 use Rattle.duo_run.specs.Pages.{AreInPlace, application_pages, probe_in}
 use Rattle.duo_run.specs.Room.{bytes_of, entries_of, worker_room}
@@ -130,6 +130,11 @@ moves_steps layout first (Install aim image) probe placed for =
 moves_steps layout first (Confirm write) probe placed for =
     steps_of_entry probe layout.otadata write placed.aligned
     (confirm_long layout first write placed for)
+
+-- both rooms together are few
+pub few_entries : (len mine theirs sum : ℕ) → len ≤ 2 ^ 24
+    → mine ≡ (driver_room len).entries → theirs ≤ 143360 → sum ≡ mine + theirs → sum < 2 ^ 32
+few_entries len mine theirs sum small m t s = omega arith
 
 -- ---- the probe
 
@@ -260,6 +265,16 @@ module _ (rows : List Row) (script : List Action) (driver : ℕ) (layout : Place
         (record { entries_fit = omega arith; bytes_fit = omega arith })) first,
   )
   can_both (suc (suc d)) is two left right words first second = absurd (omega arith)
+
+  -- the base of the bus of these parts is that of the leg
+  pub base_is : (pages : Map) (rooms : List Room) (mine theirs : Room) (duty : Course)
+      → pages ≡ application_pages offset notes → rooms ≡ rooms_of driver mine theirs
+      → mine ≡ driver_room (length_for purpose) → theirs ≡ worker_room script
+      → duty ≡ course_from driver rows layout purpose → base_with dev pages rooms duty ≡ base
+  base_is pages rooms mine theirs duty p r m t d =
+      let both : rooms ≡ rooms_of driver (driver_room (length_for purpose)) (worker_room script) =
+      r ∙ (λ i. rooms_of driver (m i) (t i)) in
+      λ i. base_with dev (p i) (both i) (d i)
 
   pub begins_steps : (probe : Option ℕ)
       → steps_of (moves_for layout purpose probe) ≡ steps_for layout purpose

@@ -15,3 +15,6 @@ mod BeginLemmas
 mod HoldsLemmas
 mod OutcomeLemmas
 mod NumberLemmas
+mod DuoLemmas
+mod DrivingLemmas
+mod WriteAllLemmas

@@ -360,13 +360,78 @@ module _ (rows : List Row) (script : List Action) (driver : ℕ) (layout : Place
       done = done;
     }
 
-  -- from the opening to the device that came back
-  pub outcome : (words : TableId) (first second left right : Core) (driven : Result LegEnd StepNo)
-      (worked : Result (Unit {0}) StepNo) (ran : Ran) → IsFirst words 0 base first
-      → IsFirst words 1 base second
-      → HaveRun driver layout purpose notes rows script driven worked first second left right
-      → IsClosed dev.steps (whole_by driven) left right ran
-      → IsDuoLeg rows script driver layout purpose offset notes dev ran
-  outcome words first second left right driven worked ran one other run closed =
-      is_leg left right driven worked ran closed
-      (shares_at driver refl two words first second left right driven worked one other run)
+  -- both cores stay what they are
+  kept_at : (d : ℕ) → d < 2 → (words : TableId) (first second left right : Core)
+      (driven : Result LegEnd StepNo) (worked : Result (Unit {0}) StepNo)
+      → IsFirst words 0 base first → IsFirst words 1 base second
+      → HaveRun d layout purpose notes rows script driven worked first second left right
+      → ((left.table ≡ words) × (left.core ≡ 0)) × ((right.table ≡ words) × (right.core ≡ 1))
+      × (left.base ≡ Some base)
+  kept_at zero small words first second left right driven worked one other run =
+      let a = run.0.ran.adds.is in
+      let b = run.1.adds.is in (
+        (
+          ap (λ (z : Core). z.table) a ∙ ap (λ (z : Core). z.table) one,
+          ap (λ (z : Core). z.core) a ∙ ap (λ (z : Core). z.core) one,
+        ),
+        (
+          ap (λ (z : Core). z.table) b ∙ ap (λ (z : Core). z.table) other,
+          ap (λ (z : Core). z.core) b ∙ ap (λ (z : Core). z.core) other,
+        ),
+        ap (λ (z : Core). z.base) a ∙ ap (λ (z : Core). z.base) one,
+      )
+  kept_at (suc zero) small words first second left right driven worked one other run =
+      let a = run.0.ran.adds.is in
+      let b = run.1.adds.is in (
+        (
+          ap (λ (z : Core). z.table) b ∙ ap (λ (z : Core). z.table) one,
+          ap (λ (z : Core). z.core) b ∙ ap (λ (z : Core). z.core) one,
+        ),
+        (
+          ap (λ (z : Core). z.table) a ∙ ap (λ (z : Core). z.table) other,
+          ap (λ (z : Core). z.core) a ∙ ap (λ (z : Core). z.core) other,
+        ),
+        ap (λ (z : Core). z.base) b ∙ ap (λ (z : Core). z.base) one,
+      )
+  kept_at (suc (suc d)) small words first second left right driven worked one other run =
+      absurd (omega arith)
+
+  -- what both are behind the leg, by the base that was opened
+  module _ (opened : Base (CutSetting (Unit {0})) Course) (same : opened ≡ base)
+      (words : TableId) (first second left right : Core) (driven : Result LegEnd StepNo)
+      (worked : Result (Unit {0}) StepNo) (one : IsFirst words 0 opened first)
+      (other : IsFirst words 1 opened second)
+      (run : HaveRun driver layout purpose notes rows script driven worked first second left right)
+    where
+      one_here : IsFirst words 0 base first
+      one_here = subst (λ (b : Base (CutSetting (Unit {0})) Course). IsFirst words 0 b first) same one
+
+      other_here : IsFirst words 1 base second
+      other_here =
+          subst (λ (b : Base (CutSetting (Unit {0})) Course). IsFirst words 1 b second) same other
+
+      pub kept_left : (left.table ≡ words) × (left.core ≡ 0)
+      kept_left = (kept_at driver two words first second left right driven worked one_here other_here
+          run).0
+
+      pub kept_right : (right.table ≡ words) × (right.core ≡ 1)
+      kept_right = (kept_at driver two words first second left right driven worked one_here other_here
+          run).1
+
+      pub kept_base : (before : ℕ) → before ≡ dev.steps
+          → OnBase left.base (λ b. b.steps ≡ before)
+      kept_base before is =
+          subst (λ (o : Option (Base (CutSetting (Unit {0})) Course)). OnBase o (λ b.
+          b.steps ≡ before))
+          (sym (kept_at driver two words first second left right driven worked one_here other_here
+          run).2) (sym is)
+
+      -- from the opening to the device that came back
+      pub outcome : (before : ℕ) (whole : LegEnd) (ran : Ran) → before ≡ dev.steps
+          → whole ≡ whole_by driven → IsClosed before whole left right ran
+          → IsDuoLeg rows script driver layout purpose offset notes dev ran
+      outcome before whole ran is ends closed =
+          is_leg left right driven worked ran
+          (subst (λ (z : ℕ × LegEnd). IsClosed z.0 z.1 left right ran) (λ i. (is i, ends i)) closed)
+          (shares_at driver refl two words first second left right driven worked one_here other_here
+          run)

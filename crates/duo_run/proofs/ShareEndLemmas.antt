@@ -62,7 +62,7 @@ stops_refused k regs why (Ask ∷ moves) items (inr s) = stops_refused k regs wh
 broken : (k : ℕ) (regs : Regs) (why : NorFault) (checked : Result Row PartNo) (steps : List Step)
     (items : List Did) → BreaksOff k regs why checked steps items → HasRefusal items
 broken k regs why (Ok row) steps items s = stops_refused k regs why (makes steps) items s
-broken k regs why (Err no) steps items s = absurd s
+broken k regs why (Err refused_so) steps items s = absurd s
 
 ended : (rows : List Row) (why : NorFault) (k : ℕ) (regs : Regs) (action : Action)
     (items : List Did) → HasEnded rows why k regs action items → HasRefusal items

@@ -105,6 +105,14 @@ fn unwritten(no: WriteNo) -> Result<LegEnd, StepNo>
 }
 
 /// Reads back what was written, and announces it where it is a whole image.
+#[tactic(auto, using(
+    crate::proofs::DrivingLemmas::sealed_room,
+    crate::proofs::DrivingLemmas::sealed_look,
+    crate::proofs::DrivingLemmas::sealed_ran,
+    crate::proofs::DrivingLemmas::sealed_end_is,
+    crate::proofs::DrivingLemmas::not_sealed,
+    crate::proofs::DrivingLemmas::not_sealed_end,
+))]
 fn seal<'w, 'a, R: Wait, D: Crash, P: Pace>(
     rt: &R,
     ota: Ota<'w, D, UpdateDuty<'a>>,
