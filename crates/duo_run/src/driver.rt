@@ -25,6 +25,11 @@ const PIECE: usize = 4096;
 /// Installs an image: erases the sectors of the slot, writes the bytes, reads them back, and announces
 /// them where they are a whole image. Answers how the session ended, where the device refused
 /// nothing.
+#[tactic(auto, using(
+    crate::proofs::DrivingLemmas::open_here,
+    crate::proofs::DrivingLemmas::begin_room,
+    crate::proofs::DrivingLemmas::not_begun,
+))]
 pub(crate) fn install<'w, 'a, R: Wait, D: Crash, P: Pace>(
     rt: &R,
     core: Core<'w, D, UpdateDuty<'a>>,
