@@ -139,8 +139,8 @@ few_entries len mine theirs sum small m t s = omega arith
 -- ---- the probe
 
 served_in : (space : Space) → IsBitSet 3 (bit_of space)
-served_in Data = λ e. let no : 1 ≡ 0 = e in omega arith
-served_in Code = λ e. let no : 2 ≡ 0 = e in omega arith
+served_in Data = λ (e : 1 ≡ 0). omega arith
+served_in Code = λ (e : 2 ≡ 0). omega arith
 
 look_at : {S : Type 0} (b : Base S Course) (probe : Option ℕ)
     → IfSome probe (λ at. IsFixed b.map (length b.flash) at 4) → CanLook (Some b) reset probe

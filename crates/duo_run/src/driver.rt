@@ -80,7 +80,10 @@ fn write_all<'w, 'a, R: Wait, D: Crash, P: Pace>(
     let mut rest = image;
     while !rest.is_empty() {
         let (piece, later) = split_at_most(rest, PIECE);
-        ota = ota.write(rt, beat, piece)?;
+        match ota.write(rt, beat, piece) {
+            Ok(next) => ota = next,
+            Err(back) => return Err(back),
+        }
         rest = later;
     }
     Ok(ota)

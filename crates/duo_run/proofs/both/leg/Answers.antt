@@ -43,7 +43,7 @@ open_leg-requires-clause-entries g c =
 
 -- both cores can do what they are to
 pub run_cores-cores-requires-clause-can : goal.run_cores-cores-requires-clause-can
-run_cores-cores-requires-clause-can g c =
+run_cores-cores-requires-clause-can g c κs within =
     let same = base_is c.args.beside.now.table.now c.args.beside.now.script.now c.args.driver
     c.args.layout.now (purpose_of c.args.job.now) c.args.offset c.args.info.now.segments.items
     c.args.dev c.requires.begins c.application_pages-pages.result c.rooms_of-rooms.result
