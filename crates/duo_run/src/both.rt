@@ -98,10 +98,7 @@ fn run_both<'w, 'a, R: Threads + Wait + Sync, P: Pace + Sync>(
         Ended<CutNor<RamNor>, UpdateDuty<'a>>,
         Result<LegEnd, StepNo>,
     ),
-    (
-        Ended<CutNor<RamNor>, UpdateDuty<'a>>,
-        Result<(), StepNo>,
-    ),
+    (Ended<CutNor<RamNor>, UpdateDuty<'a>>, Result<(), StepNo>),
 )
     requires drives { CanDrive layout.now (purpose_of job.now) probe driver }
     requires works { CanWork part_of Grants part_after beside.now.table.now

@@ -25,11 +25,7 @@ const PIECE: usize = 4096;
 /// Installs an image: erases the sectors of the slot, writes the bytes, reads them back, and announces
 /// them where they are a whole image. Answers how the session ended, where the device refused
 /// nothing.
-#[tactic(auto, using(
-    crate::proofs::DrivingLemmas::open_here,
-    crate::proofs::DrivingLemmas::begin_room,
-    crate::proofs::DrivingLemmas::not_begun,
-))]
+#[tactic(auto, using(crate::proofs::DrivingLemmas::open_here, crate::proofs::DrivingLemmas::begin_room, crate::proofs::DrivingLemmas::not_begun,))]
 pub(crate) fn install<'w, 'a, R: Wait, D: Crash, P: Pace>(
     rt: &R,
     core: Core<'w, D, UpdateDuty<'a>>,
@@ -113,14 +109,7 @@ fn unwritten(no: WriteNo) -> Result<LegEnd, StepNo>
 }
 
 /// Reads back what was written, and announces it where it is a whole image.
-#[tactic(auto, using(
-    crate::proofs::DrivingLemmas::sealed_room,
-    crate::proofs::DrivingLemmas::sealed_look,
-    crate::proofs::DrivingLemmas::sealed_ran,
-    crate::proofs::DrivingLemmas::sealed_end_is,
-    crate::proofs::DrivingLemmas::not_sealed,
-    crate::proofs::DrivingLemmas::not_sealed_end,
-))]
+#[tactic(auto, using(crate::proofs::DrivingLemmas::sealed_room, crate::proofs::DrivingLemmas::sealed_look, crate::proofs::DrivingLemmas::sealed_ran, crate::proofs::DrivingLemmas::sealed_end_is, crate::proofs::DrivingLemmas::not_sealed, crate::proofs::DrivingLemmas::not_sealed_end,))]
 fn seal<'w, 'a, R: Wait, D: Crash, P: Pace>(
     rt: &R,
     ota: Ota<'w, D, UpdateDuty<'a>>,

@@ -74,7 +74,17 @@ impl<'a, P: Pace + Sync> Duo<'a, P> {
         let layout = layout_of(self.table);
         let row = layout.place(aim.running);
         let job = Job::Install { aim, image };
-        leg(rt, alloc, dev, self.driver, &layout, &job, row.offset, &aim.info, &self.beside())
+        leg(
+            rt,
+            alloc,
+            dev,
+            self.driver,
+            &layout,
+            &job,
+            row.offset,
+            &aim.info,
+            &self.beside(),
+        )
     }
 
     /// A confirmation of what was booted, by this rewrite of its entry. All memory is taken before the
@@ -98,6 +108,16 @@ impl<'a, P: Pace + Sync> Duo<'a, P> {
         let layout = layout_of(self.table);
         let row = layout.place(at.app);
         let job = Job::Confirm { write };
-        leg(rt, alloc, dev, self.driver, &layout, &job, row.offset, &at.info, &self.beside())
+        leg(
+            rt,
+            alloc,
+            dev,
+            self.driver,
+            &layout,
+            &job,
+            row.offset,
+            &at.info,
+            &self.beside(),
+        )
     }
 }

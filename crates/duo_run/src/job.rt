@@ -22,14 +22,9 @@ use std::sync::Wait;
 #[derive(Drop)]
 pub(crate) enum Job<'a> {
     /// It installs an image.
-    Install {
-        aim: &'a Aim,
-        image: &'a [u8],
-    },
+    Install { aim: &'a Aim, image: &'a [u8] },
     /// It confirms the application that runs.
-    Confirm {
-        write: &'a Rewrite,
-    },
+    Confirm { write: &'a Rewrite },
 }
 
 /// The duty of both cores meanwhile.
