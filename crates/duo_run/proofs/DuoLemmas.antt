@@ -54,14 +54,16 @@ module _ (rows : List Row) (layout : Places) (aim : Aim) (image : List ℕ) (dev
     ready = may.ready;
     table = may.table;
     for = record { old = image_of layout dev.inner.bytes aim.running; opens = may.opens };
-    placed = app_in_place dev.inner.bytes rows layout aim.running row may.opens.begins.image aim.info
+    placed = app_in_place dev.inner.bytes rows layout aim.running row may.opens.begins.image
+        aim.info
         may.table.table may.table.layout_is is runs may.opens.begins.told;
   }
 
 session_is : (rows : List Row) (script : List Action) (driver : ℕ) (layout : Places) (aim : Aim)
     (image : List ℕ) (row : Row) (dev : CutDevice Ram) (ran : Ran)
     → row_for layout aim.running ≡ Some row
-    → IsDuoLeg rows script driver layout (Install aim image) row.offset aim.info.segments.items dev ran
+    → IsDuoLeg rows script driver layout (Install aim image) row.offset aim.info.segments.items dev
+        ran
     → IsDuoSession rows script driver layout aim image dev ran
 session_is rows script driver layout aim image row dev ran is l = record {
   ran_is = l.ran_is;
@@ -92,7 +94,8 @@ module _ (rows : List Row) (layout : Places) (at : Booted) (write : Rewrite)
     (dev : CutDevice Ram) (may : MayAffirm rows layout at write dev) where
   started : images_in held layout dev.inner.bytes at.app ≡ Some may.started.image
   started = first_holds (images_in held layout dev.inner.bytes)
-      (candidates layout (names layout (entries_in layout dev.inner.bytes))) at.app may.started.image
+      (candidates layout (names layout (entries_in layout dev.inner.bytes))) at.app
+          may.started.image
       may.started.is
 
   confirm_row : IsSome (row_for layout at.app)
@@ -179,7 +182,8 @@ module _ (rows : List Row) (script : List Action) (driver : ℕ) (here : Places)
     (a : Allows rows (λ layout. MayInstall rows layout aim image dev))
     (is : layout_of rows ≡ Ok here) where
   may_install : MayInstall rows here aim image dev
-  may_install = allowed_here rows (λ (layout : Places). MayInstall rows layout aim image dev) here a is
+  may_install = allowed_here rows (λ (layout : Places). MayInstall rows layout aim image dev) here
+      a is
 
   pub install_row : IsSome (row_for here aim.running)
   install_row = session_row rows here aim image dev may_install
@@ -189,7 +193,8 @@ module _ (rows : List Row) (script : List Action) (driver : ℕ) (here : Places)
   install_begins row there = session_begins rows here aim image dev may_install row there
 
   pub installed : (row : Row) (ran : Ran) → row_for here aim.running ≡ Some row
-      → IsDuoLeg rows script driver here (Install aim image) row.offset aim.info.segments.items dev ran
+      → IsDuoLeg rows script driver here (Install aim image) row.offset aim.info.segments.items dev
+          ran
       → (layout : Places) → layout_of rows ≡ Ok layout
       → IsDuoSession rows script driver layout aim image dev ran
   installed row ran there l layout laid =

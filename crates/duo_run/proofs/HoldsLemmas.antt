@@ -83,7 +83,8 @@ holds_as first rows layout (Install aim image) flash for good =
       rest = good.rest;
       split = good.split;
       stands = good.stands;
-      boots = subst (λ (old : List ℕ). BootsOldOrNew layout first aim (slot_size layout aim.slot) old
+      boots = subst (λ (old : List ℕ). BootsOldOrNew layout first aim (slot_size layout aim.slot)
+          old
           image flash) (sym same)
           (subst (λ (size : ℕ). BootsOldOrNew layout first aim size for.old image flash)
           (sym (ap (λ (o : Option Row). size_or_none o) opens.begins.row_is))

@@ -96,7 +96,8 @@ not_bad old n is (inr fail) = ahead_not old.fail n is.fail_ahead fail
 module _ (rows : List Row) (script : List Action) (driver : ℕ) (layout : Places)
     (purpose : Purpose) (probe : Option ℕ) (pages : Map → Type 0) (holds : List ℕ → Type 0)
     (old new : CutDevice Ram) (journal : Kept) (two : driver < 2)
-    (leg : IsLeg (DriverShare layout purpose probe) (WorkerShare rows reset script) driver pages holds
+    (leg : IsLeg (DriverShare layout purpose probe) (WorkerShare rows reset script) driver pages
+        holds
     old new journal) (sound : IsUnbroken old new.steps) where
   core_did : (c : ℕ) → c < 2 → of_core c leg.stands.stood.log ≡ share_of c leg.left leg.right
   core_did zero small = leg.stands.stood.left_is
@@ -130,7 +131,8 @@ module _ (rows : List Row) (script : List Action) (driver : ℕ) (layout : Place
           → WorkerShare rows reset script r (share_of (1 - driver) leg.left leg.right) → r ≡ Ok tt
       by (Ok u) share = refl
       by (Err why) share = absurd (none_refused (1 - driver) (omega arith)
-          (stopped_refused rows why 1 reset script (share_of (1 - driver) leg.left leg.right) share))
+          (stopped_refused rows why 1 reset script (share_of (1 - driver) leg.left leg.right)
+              share))
 
 -- ---- the leg
 
@@ -284,7 +286,8 @@ module _ (rows : List Row) (script : List Action) (driver : ℕ) (layout : Place
     ran_is = closed.tells dev (end_for layout purpose) begins.ready refl long
         (sym closed.same.setting ∙ stands.setting_is) told (end_whole layout purpose) whole
 
-    opening : IsBaseOf bytes_of is_off (λ (d : CutDevice Ram). d.steps) faults_of setting_of base dev
+    opening : IsBaseOf bytes_of is_off (λ (d : CutDevice Ram). d.steps) faults_of setting_of base
+        dev
         base.map (empty_journal base.left_room base.right_room) base.duty
     opening = record {
       flash_is = refl;
@@ -328,7 +331,8 @@ module _ (rows : List Row) (script : List Action) (driver : ℕ) (layout : Place
             → made (share_of driver left.share right.share) ≡ steps_for layout purpose
         by (Ok end) share =
             made_follows 0 reset None moves (share_of driver left.share right.share) share
-            ∙ begins_steps rows script driver layout purpose offset notes dev begins (probe_in notes)
+            ∙ begins_steps rows script driver layout purpose offset notes dev begins
+                (probe_in notes)
         by (Err why) share =
             absurd (not_bad dev last (unbroken is) (refused (cause_of why) share))
 
@@ -350,11 +354,13 @@ module _ (rows : List Row) (script : List Action) (driver : ℕ) (layout : Place
       both = λ is. (
         drove_whole rows script driver layout purpose (probe_in notes)
             (λ (m : Map). m ≡ application_pages offset notes)
-            (HoldsFor layout dev.inner.bytes purpose (open_addresses rows)) dev ran.dev ran.journal two
+            (HoldsFor layout dev.inner.bytes purpose (open_addresses rows)) dev ran.dev ran.journal
+                two
             leg (unbroken is),
         worked_whole rows script driver layout purpose (probe_in notes)
             (λ (m : Map). m ≡ application_pages offset notes)
-            (HoldsFor layout dev.inner.bytes purpose (open_addresses rows)) dev ran.dev ran.journal two
+            (HoldsFor layout dev.inner.bytes purpose (open_addresses rows)) dev ran.dev ran.journal
+                two
             leg (unbroken is),
       );
       done = done;
@@ -404,18 +410,21 @@ module _ (rows : List Row) (script : List Action) (driver : ℕ) (layout : Place
       (run : HaveRun driver layout purpose notes rows script driven worked first second left right)
     where
       one_here : IsFirst words 0 base first
-      one_here = subst (λ (b : Base (CutSetting (Unit {0})) Course). IsFirst words 0 b first) same one
+      one_here = subst (λ (b : Base (CutSetting (Unit {0})) Course). IsFirst words 0 b first) same
+          one
 
       other_here : IsFirst words 1 base second
       other_here =
           subst (λ (b : Base (CutSetting (Unit {0})) Course). IsFirst words 1 b second) same other
 
       pub kept_left : (left.table ≡ words) × (left.core ≡ 0)
-      kept_left = (kept_at driver two words first second left right driven worked one_here other_here
+      kept_left = (kept_at driver two words first second left right driven worked one_here
+          other_here
           run).0
 
       pub kept_right : (right.table ≡ words) × (right.core ≡ 1)
-      kept_right = (kept_at driver two words first second left right driven worked one_here other_here
+      kept_right = (kept_at driver two words first second left right driven worked one_here
+          other_here
           run).1
 
       pub kept_base : (before : ℕ) → before ≡ dev.steps

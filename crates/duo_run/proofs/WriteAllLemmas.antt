@@ -166,7 +166,8 @@ module _ {S : Type 0} (probe : Option ℕ) (image : List ℕ) (first : Writing (
           ap (λ (l : List ℕ). write_moves probe (at + w.written) l)
           (sym (together rest piece later cut))
           ∙ write_pieces probe (at + w.written) piece later (omega arith) (omega arith)
-          ∙ ap (λ (n : ℕ). write_moves probe (at + w.written) piece ++ write_moves probe n later) place
+          ∙ ap (λ (n : ℕ). write_moves probe (at + w.written) piece ++ write_moves probe n later)
+              place
       | inr last ↦
           ap (λ (l : List ℕ). write_moves probe (at + w.written) l) (sym last.all)
           ∙ sym (append-nil (write_moves probe (at + w.written) piece))
@@ -211,7 +212,8 @@ module _ {S : Type 0} (probe : Option ℕ) (image : List ℕ) (first : Writing (
     -- there is room for it
     piece_room : HasRoomFor w.core.base w.core.core w.core.share (piece_moves probe w piece)
     piece_room =
-        subst (λ (ms : List Move). HasRoomFor w.core.base w.core.core w.core.share ms) (sym piece_is)
+        subst (λ (ms : List Move). HasRoomFor w.core.base w.core.core w.core.share ms)
+            (sym piece_is)
         (room_front (write_moves probe (at + w.written) piece)
         (write_moves probe (at + (w.written + len)) later) w.core
         (subst (λ (ms : List Move). HasRoomFor w.core.base w.core.core w.core.share ms) cut_moves
@@ -221,7 +223,8 @@ module _ {S : Type 0} (probe : Option ℕ) (image : List ℕ) (first : Writing (
     right : wrong_byte w.written piece ≡ None → wrong_byte 0 image ≡ None
     right is = elim up.begun [
       | inl same ↦
-          let zero_is : w.written ≡ 0 = ap (λ (z : Writing (Base S Course)). z.written) same ∙ none in
+          let zero_is : w.written ≡ 0 = ap (λ (z : Writing (Base S Course)). z.written) same ∙ none
+              in
           let all : rest ≡ image = up.rest_is ∙ ap (λ (n : ℕ). drop n image) zero_is in
           sym (wrong_first image piece (cut.front ∙ ap (λ (l : List ℕ). take 4096 l) all))
           ∙ ap (λ (n : ℕ). wrong_byte n piece) (sym zero_is) ∙ is
@@ -254,7 +257,8 @@ module _ {S : Type 0} (probe : Option ℕ) (image : List ℕ) (first : Writing (
             | inr last ↦ inr last.none
           ];
           begun = inr (omega arith, right x.first);
-          left = subst (λ (n : ℕ). Left 0 whole (write_moves probe (at + n) later) first.core z.core)
+          left = subst (λ (n : ℕ). Left 0 whole (write_moves probe (at + n) later) first.core
+              z.core)
               (sym x.written)
               (left_then 0 whole (write_moves probe (at + w.written) rest)
               (write_moves probe (at + w.written) piece)
@@ -290,18 +294,21 @@ module _ {S : Type 0} (probe : Option ℕ) (image : List ℕ) (first : Writing (
         (subst (λ (ms : List Move). HasRun 0 ms (Err why) w.core o) piece_is run)
 
     -- the piece is refused
-    piece_refused : (refused_so : WriteNo) (o : Own (Base S Course) Did) → IsNotWritten probe piece w refused_so o
+    piece_refused : (refused_so : WriteNo) (o : Own (Base S Course) Did) → IsNotWritten probe piece
+        w refused_so o
         → IsNotAllWritten probe image first refused_so o
     piece_refused (writes.FirstByte byte) o x = elim up.begun [
       | inl same ↦
-          let zero_is : w.written ≡ 0 = ap (λ (z : Writing (Base S Course)). z.written) same ∙ none in
+          let zero_is : w.written ≡ 0 = ap (λ (z : Writing (Base S Course)). z.written) same ∙ none
+              in
           let all : rest ≡ image = up.rest_is ∙ ap (λ (n : ℕ). drop n image) zero_is in (
             sym (wrong_first image piece (cut.front ∙ ap (λ (l : List ℕ). take 4096 l) all))
                 ∙ ap (λ (n : ℕ). wrong_byte n piece) (sym zero_is) ∙ x.0,
             x.1 ∙ ap (λ (z : Writing (Base S Course)). z.core) same,
           )
       | inr later ↦
-          let refused_so : None ≡ Some byte = sym (wrong_later w.written piece later.0) ∙ x.0 in absurd cc
+          let refused_so : None ≡ Some byte = sym (wrong_later w.written piece later.0) ∙ x.0 in
+              absurd cc
     ]
     piece_refused writes.Device o x = (right x.0, stops _ o x.1)
     piece_refused writes.Cut o x = (right x.0, stops _ o x.1)
@@ -355,4 +362,5 @@ module _ {S : Type 0} (probe : Option ℕ) (image : List ℕ) (first : Writing (
 
       pub round_refused : (refused_so : WriteNo) (o : Own (Base S Course) Did)
           → IsNotWritten probe piece w refused_so o → IsNotAllWritten probe image first refused_so o
-      round_refused refused_so o x = piece_refused w rest piece later up none long cut refused_so o x
+      round_refused refused_so o x = piece_refused w rest piece later up none long cut refused_so o
+          x

@@ -42,8 +42,8 @@ pub record HasTable (rows : List Row) (layout : Places) (flash : List ℕ) : Typ
   pub table : table_of (take 0xC00 (drop 0x8000 flash)) (length flash) ≡ Ok rows
   pub layout_is : layout_of rows ≡ Ok layout
 
--- a leg for this purpose may begin on this device, while an application runs that begins here in the
--- flash and has these segments
+-- a leg for this purpose may begin on this device, while an application runs that begins here in
+-- the flash and has these segments
 pub record MayBegin (rows : List Row) (layout : Places) (purpose : Purpose) (offset : ℕ)
     (notes : List SegmentNote) (dev : CutDevice Ram) : Type 0 where
   pub ready : IsReady dev
@@ -59,7 +59,8 @@ rooms_of zero mine theirs = mine ∷ theirs ∷ []
 rooms_of (suc driver) mine theirs = theirs ∷ mine ∷ []
 
 -- the base of a bus that was made of these parts
-abbrev pub base_with : CutDevice Ram → Map → List Room → Course → Base (CutSetting (Unit {0})) Course
+abbrev pub base_with : CutDevice Ram → Map → List Room → Course
+    → Base (CutSetting (Unit {0})) Course
 base_with dev map rooms duty = record {
   flash = dev.inner.bytes;
   map = map;

@@ -75,9 +75,11 @@ module _ {S : Type 0} where
   IsNotAllWritten probe image w (writes.FirstByte byte) o =
       (wrong_byte 0 image ≡ Some byte) × (o ≡ w.core)
   IsNotAllWritten probe image w writes.Device o =
-      (wrong_byte 0 image ≡ None) × HasRun 0 (write_moves probe w.target.at image) (Err Failed) w.core o
+      (wrong_byte 0 image ≡ None)
+      × HasRun 0 (write_moves probe w.target.at image) (Err Failed) w.core o
   IsNotAllWritten probe image w writes.Cut o =
-      (wrong_byte 0 image ≡ None) × HasRun 0 (write_moves probe w.target.at image) (Err Off) w.core o
+      (wrong_byte 0 image ≡ None)
+      × HasRun 0 (write_moves probe w.target.at image) (Err Off) w.core o
 
 -- how a session ends behind its last piece
 abbrev pub closed_end : ℕ → List ℕ → LegEnd

@@ -1,5 +1,5 @@
--- What the core that drives is to do, in one of both kinds of leg: to install an image, or to confirm
--- the application that runs.
+-- What the core that drives is to do, in either kind of leg: to install an image, or to confirm the
+-- application that runs.
 use Rattle.std.specs.Prelude.{◌≡◌, ℕ, ◌+◌, ◌*◌, ◌/◌, Bool, List, [], Option, IfOk, Result, length}
 use Rattle.core_state.specs.Registers.{reset}
 use Rattle.nor_device.specs.declared.nor.NorFault.{NorFault}
@@ -53,12 +53,13 @@ HoldsFor layout first (Install aim image) others = HoldsUpdate layout first aim 
 HoldsFor layout first (Confirm write) others = HoldsRewrite layout first write others
 
 -- the share of the driver
-abbrev pub DriverShare : Places → Purpose → Option ℕ → Result (Unit {0}) NorFault → List Did → Type 0
+abbrev pub DriverShare : Places → Purpose → Option ℕ → Result (Unit {0}) NorFault → List Did
+    → Type 0
 DriverShare layout purpose probe r items = HasMoved 0 reset (moves_for layout purpose probe) r items
 
--- the room in the journal that the driver needs at most, by the length of its image: three entries for
--- the erase of a sector and the look behind it, two for a program, and one for a look behind sixteen of
--- them; and six for the entry. Each look has four bytes
+-- the room in the journal that the driver needs at most, by the length of its image: three entries
+-- for the erase of a sector and the look behind it, two for a program, and one for a look behind
+-- sixteen of them; and six for the entry. Each look has four bytes
 abbrev pub driver_room : ℕ → Room
 driver_room len = record {
   entries = 4 * ((len + 4095) / 4096) + 2 * ((len + 255) / 256) + 6;
