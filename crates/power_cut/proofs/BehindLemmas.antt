@@ -1,12 +1,11 @@
--- What stands behind the data of an update stays in the rewrites of a boot and of a confirmation, and
--- boots the application that ran or the new one, but for a chance match seen from the opening.
-use Rattle.std.proofs.Common.{◌==◌, ◌≡◌, ◌≢◌, ◌⊎◌, inl, inr, Bool, true, false, ℕ, zero, suc, ◌+◌, ◌*◌, ◌<◌, ◌≤◌, List, [], ◌∷◌, ◌++◌, length, slice_get, Option, Some, None, refl, sym, ap, ◌∙◌, subst, arith}
+-- What stands behind the data of an update stays in the rewrites of a boot and of a confirmation,
+-- and boots the application that ran or the new one, but for a chance match seen from the opening.
+use Rattle.std.proofs.Common.{◌≡◌, ◌≢◌, ◌⊎◌, inl, inr, Bool, ℕ, zero, suc, ◌+◌, ◌<◌, ◌≤◌, List, [], ◌∷◌, ◌++◌, length, Option, Some, None, refl, sym, ap, ◌∙◌, subst, arith}
 use Rattle.std.proofs.lemmas.Bool.Decides.{nat_tests}
 use Rattle.std.proofs.lemmas.Option.{slice_get_within}
 use Rattle.nor_device.specs.declared.step.Step.{Step}
 use Rattle.nor_device.specs.Flash.{after_steps}
-use Rattle.nor_device.specs.Nor.{part_of}
-use Rattle.nor_device.proofs.FlashLaws.{after_steps_append, length-after_steps}
+use Rattle.nor_device.proofs.FlashLaws.{after_steps_append}
 use Rattle.crash_images.specs.Crash.{LeftAfter}
 use Rattle.crash_images.specs.Agrees.{Agrees, Covers, IsBeside}
 use Rattle.crash_images.proofs.AgreesLaws.{agrees_part, left_agrees}
@@ -23,15 +22,15 @@ use Rattle.otadata.specs.Next.{active_seq, next_sector, seq_at}
 use Rattle.otadata.proofs.ChoiceLemmas.{active-first, active-none, active-second, active_cases}
 use Rattle.boot_select.specs.Boots.{Images, entries_in, first_held, images_in, names}
 use Rattle.boot_select.specs.Candidates.{candidates}
-use Rattle.boot_select.specs.Choice.{named_of, slot_app}
+use Rattle.boot_select.specs.Choice.{slot_app}
 use Rattle.boot_select.specs.Target.{Heralds, IsNotBelow}
 use Rattle.boot_select.proofs.StartLemmas.{images_are_placed}
 use Rattle.boot_select.proofs.TargetLemmas.{aim-heralds}
 use Rattle.rollback.specs.declared.rewrite.Rewrite.{Rewrite}
 use Rattle.rollback.specs.Boot.{boot_writes}
-use Rattle.rollback.specs.Boots.{IsSettled, after_boot, boots, boots_in, in_state}
+use Rattle.rollback.specs.Boots.{IsSettled, after_boot, boots_in, in_state}
 use Rattle.rollback.specs.Pair.{IsPair, Keeps, RewritesOnly, aborts_it, begins_it, is_quiet, other_of}
-use Rattle.rollback.specs.Rewrite.{changed, restated, with_state, written}
+use Rattle.rollback.specs.Rewrite.{restated, with_state, written}
 use Rattle.rollback.proofs.BootLemmas.{boot_writes-none}
 use Rattle.rollback.proofs.ChanceLemmas.{changed_here, changed_there}
 use Rattle.rollback.proofs.EntriesLemmas.{boots_after, boots_same}
@@ -46,12 +45,11 @@ use Rattle.boot_run.proofs.FrameLemmas.{left_images, left_other, rewrites_within
 use Rattle.boot_run.proofs.StoredLemmas.{entries_changed, rewritten_entry}
 use Rattle.update_steps.specs.Beside.{IsApart, IsSpared, StandsBeside}
 use Rattle.update_steps.specs.Driver.{data_steps, driver_steps, next_rewrite}
-use Rattle.update_steps.specs.Session.{IsOpening}
 use Rattle.update_steps.proofs.BesideLemmas.{alone, alone_agrees, alone_left, alone_none}
 use Rattle.update_steps.proofs.DataLemmas.{data_held, left_beside, left_entries, left_others}
 use Rattle.update_steps.proofs.SessionLemmas.{ShowsNone, driver_is, image_whole}
 use Rattle.update_steps.proofs.SparedLemmas.{spared_entry}
-use Rattle.power_cut.specs.Update.{BootsEither, Opens, bytes_or_none, image_of, size_or_none, slot_size}
+use Rattle.power_cut.specs.Update.{BootsEither, Opens, image_of, size_or_none, slot_size}
 use Rattle.power_cut.specs.Behind.{IsAnnounced, IsBehind}
 
 -- an application's partition lies behind the table
@@ -464,7 +462,8 @@ module _ (layout : Places) (first : List ℕ) (aim : Aim) (image : List ℕ)
       boots_after layout (images_in held layout now) (entries_in layout now)
       (entries_in layout then 0) (entries_in layout then 1)
       (after 0 (omega arith) made) (after 1 (omega arith) made)
-      ∙ ap (λ (h : Images). first_held h (candidates layout (names layout (entries_in layout then))))
+      ∙ ap (λ (h : Images). first_held h (candidates layout (names layout
+          (entries_in layout then))))
       (sym images)
     where
       then : List ℕ

@@ -1,21 +1,16 @@
 -- How a boot ends as a leg: its end names the chosen step exactly where that was begun in it.
-use Rattle.std.proofs.Common.{◌≡◌, ◌≢◌, ◌⊎◌, inl, inr, Bool, true, false, ℕ, ◌+◌, ◌^◌, ◌<◌, ◌≤◌, min, List, [], ◌∷◌, ◌++◌, length, Option, Some, None, Result, Ok, Err, refl, sym, ap, ◌∙◌, subst, arith}
-use Rattle.std.specs.Prelude.{IfErr, IfOk, IfSome, OnOk, IsTrue, IsErrOf, nat_lt, if◌then◌else◌}
-use Rattle.std.proofs.lemmas.Bool.{cases_Bool}
-use Rattle.std.proofs.lemmas.Bool.Decides.{nat_tests}
+use Rattle.std.proofs.Common.{◌≡◌, ◌≢◌, ◌⊎◌, inl, inr, Bool, true, false, ℕ, ◌+◌, ◌^◌, ◌<◌, ◌≤◌, List, [], ◌∷◌, length, Option, Some, None, Result, Ok, Err, refl, sym, ap, ◌∙◌, subst, arith}
+use Rattle.std.specs.Prelude.{IfErr, IfOk, OnOk, IsTrue, IsErrOf}
 use Rattle.nor_device.specs.declared.step.Step.{Step}
 use Rattle.nor_device.specs.declared.nor.StepEnd.{StepEnd}
 use Rattle.nor_device.specs.declared.nor.StepEnd.TheVariants as ends
 use Rattle.nor_device.specs.declared.nor.NorFault.{NorFault}
 use Rattle.nor_device.specs.declared.nor.NorFault.TheVariants.{Failed, Off}
-use Rattle.nor_device.specs.Flash.{after_steps}
 use Rattle.nor_device.specs.Nor.{HasCause, KeepsSetting, one_more}
 use Rattle.nor_device.specs.Nor as nor
 use Rattle.nor_device.specs.Ram.{Ram}
 use Rattle.crash_images.specs.declared.cut.CutSetting.{CutSetting}
-use Rattle.crash_images.specs.declared.cut.Health.{Health}
-use Rattle.crash_images.specs.declared.cut.Health.TheVariants as is
-use Rattle.crash_images.specs.Cut.{CutDevice, EndsBy, IsAhead, IsBad, restarted, unspent_of}
+use Rattle.crash_images.specs.Cut.{CutDevice, EndsBy, IsAhead, IsBad}
 use Rattle.crash_images.specs.Crash.{LeftAfter}
 use Rattle.crash_images.proofs.CutLaws.{chosen_ends, chosen_refuses}
 use Rattle.partition_table.specs.Layout.{Places}
@@ -26,14 +21,14 @@ use Rattle.rollback.specs.Boots.{boots_in}
 use Rattle.image_verify.specs.Held.{held}
 use Rattle.boot_run.specs.declared.booted.Booted.{Booted}
 use Rattle.boot_run.specs.Booted.{CountsSteps, IsBoot}
-use Rattle.boot_run.specs.Made.{AreMade, AreMadeBy, AreMissed, EachDone, IsBrokenAfter, IsRefusedAfter, StopsAt, count_after}
+use Rattle.boot_run.specs.Made.{AreMadeBy, AreMissed, EachDone, IsRefusedAfter, StopsAt, count_after}
 use Rattle.boot_run.specs.Read.{OfEntries}
 use Rattle.boot_run.specs.Rewriting.{rewrites}
 use Rattle.boot_run.proofs.MadeLemmas.{made_by_left}
 use Rattle.power_cut.specs.declared.legs.Leg.{Leg}
 use Rattle.power_cut.specs.declared.legs.LegEnd.{LegEnd}
 use Rattle.power_cut.specs.declared.legs.LegEnd.TheVariants.{Done, Device, Cut, FirstByte, Empty, Bad}
-use Rattle.power_cut.specs.Device.{BrokeAt, HasEnd, IsRan, IsReady, IsUnbroken, IsWholeEnd, MayEnd, MayRefuse, MayTear, MustRefuse, RamMayEnd, RamMayRefuse, is_cut, is_off, running_in, setting_of}
+use Rattle.power_cut.specs.Device.{HasEnd, IsRan, IsReady, IsUnbroken, IsWholeEnd, MayEnd, MayRefuse, MayTear, MustRefuse, RamMayEnd, RamMayRefuse, is_cut, is_off, running_in, setting_of}
 use Rattle.power_cut.specs.Refused.{end_asked}
 use Rattle.power_cut.specs.Whole.{HasBooted, IsBootLeg, boot_steps, end_by, is_done, started_by}
 
@@ -323,10 +318,12 @@ module _ (old new : CutDevice Ram) (whole wanted : LegEnd) (asked : Result (Unit
     (allowed : IfErr asked (MayRefuse (setting_of new) new.steps))
     (stopped : OnOk asked (¬ MustRefuse (setting_of new) new.steps))
     (told : IsUnbroken old new.steps ⊎ IsBad old.cut old.fail new.steps)
-    (whole_is : IsWholeEnd wanted) (same : ¬ IsBad old.cut old.fail new.steps → whole ≡ wanted) where
+    (whole_is : IsWholeEnd wanted) (same : ¬ IsBad old.cut old.fail new.steps → whole
+        ≡ wanted) where
   asked_end : HasEnd old new.steps wanted (end_asked new.steps whole asked)
   asked_end = at asked
-      (subst (λ (set : CutSetting (Unit {0})). IfErr asked (MayRefuse set new.steps)) setting allowed)
+      (subst (λ (set : CutSetting (Unit {0})). IfErr asked
+          (MayRefuse set new.steps)) setting allowed)
       (subst (λ (set : CutSetting (Unit {0})). OnOk asked (¬ MustRefuse set new.steps)) setting
       stopped)
     where
@@ -355,7 +352,8 @@ module _ (old new : CutDevice Ram) (whole wanted : LegEnd) (asked : Result (Unit
             last = refl;
           }
 
-  asked_power : (IsErrOf asked Off → IsTrue (is_off new)) × (IsTrue (is_off new) → IsErrOf asked Off)
+  asked_power : (IsErrOf asked Off → IsTrue (is_off new)) × (IsTrue (is_off new)
+      → IsErrOf asked Off)
       → is_off new ≡ is_cut (end_asked new.steps whole asked)
   asked_power off = at asked (is_off new) off
       (subst (λ (set : CutSetting (Unit {0})). OnOk asked (¬ MustRefuse set new.steps)) setting

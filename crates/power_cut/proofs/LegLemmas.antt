@@ -1,5 +1,5 @@
 -- A leg, by the bus on which both cores worked; and what a trial needs of it.
-use Rattle.std.proofs.Common.{◌≡◌, Bool, ℕ, zero, suc, ◌-◌, ◌<◌, List, [], ◌∷◌, ◌++◌, Option, Some, None, Result, Ok, refl, sym, ap, ◌∙◌, subst}
+use Rattle.std.proofs.Common.{◌≡◌, Bool, ℕ, zero, suc, ◌-◌, List, [], ◌∷◌, ◌++◌, Option, Some, None, Result, refl, sym, ap, ◌∙◌, subst}
 use Rattle.std.proofs.lemmas.List.{append-nil}
 use Rattle.nor_device.specs.declared.step.Step.{Step}
 use Rattle.nor_device.specs.declared.nor.NorFault.{NorFault}
@@ -30,7 +30,7 @@ use Rattle.update_steps.specs.Beside.{IsApart}
 use Rattle.power_cut.specs.declared.legs.Ran.{Ran}
 use Rattle.power_cut.specs.Device.{MayEnd, MayRefuse, MayTear, MustRefuse, bytes_of, faults_of, is_off, setting_of}
 use Rattle.power_cut.specs.Kept.{IsConfirmLeg, IsSessionLeg, KeepsConfirm, KeepsSession}
-use Rattle.power_cut.specs.Leg.{AnyGrants, IsAnyGood, IsLeg, IsLegBase, IsSameFlash, LeavesBehind, LegStands, any_after, any_duty, any_part, bus_behind, share_of, state_behind}
+use Rattle.power_cut.specs.Leg.{AnyGrants, IsLeg, IsSameFlash, LeavesBehind, LegStands, any_after, any_duty, any_part, bus_behind, share_of, state_behind}
 use Rattle.power_cut.specs.Update.{HoldsRewrite, HoldsUpdate}
 
 -- what a loss of power may leave, in the words of the device and of the log
@@ -118,7 +118,8 @@ module _ {K P : Type 0} (part : K → ℕ → P) (grants : P → Step → Type 0
     pub leg_of : (drives works : Result (Unit {0}) NorFault → List Did → Type 0) (driver : ℕ)
         (pages : Map → Type 0) (holds : List ℕ → Type 0) (old new : CutDevice Ram)
         (h : Hub (CutDevice Ram) K) (b : Base (CutSetting (Unit {0})) K) (map : Map)
-        (journal : Kept) (duty : K) (left right : List Did) (drove worked : Result (Unit {0}) NorFault)
+        (journal : Kept) (duty : K) (left right : List Did) (drove worked : Result
+            (Unit {0}) NorFault)
         → IsBaseOf bytes_of is_off (λ d. d.steps) faults_of setting_of b old map journal duty
         → pages b.map
         → Stands bytes_of is_off (λ d. d.steps) faults_of setting_of MayEnd MayTear MayRefuse
@@ -126,7 +127,8 @@ module _ {K P : Type 0} (part : K → ℕ → P) (grants : P → Step → Type 0
         → h.running ≡ None → IsSameFlash h.dev new → IsLegal h.journal.entries
         → stays b.duty
         → ((d : K) (flash : List ℕ) → stays d → good b.flash d flash → holds flash)
-        → drives drove (share_of driver left right) → works worked (share_of (1 - driver) left right)
+        → drives drove (share_of driver left right) → works worked (share_of
+            (1 - driver) left right)
         → IsLeg drives works driver pages holds old new h.journal
     leg_of drives works driver pages holds old new h b map journal duty left right drove worked
         opening mapped stands idle same legal is means drives_so works_so = record {

@@ -1,9 +1,7 @@
 -- How a device comes back from a log: where a chosen step was begun, it is the last one.
-use Rattle.std.proofs.Common.{◌==◌, ◌≡◌, ◌≢◌, ◌⊎◌, inl, inr, Bool, true, false, ℕ, zero, suc, ◌+◌, ◌-◌, ◌<◌, ◌≤◌, cond, List, [], ◌∷◌, ◌++◌, Option, Some, None, refl, sym, ap, ◌∙◌, subst, arith}
+use Rattle.std.proofs.Common.{◌==◌, ◌≡◌, ◌⊎◌, inl, inr, true, false, ℕ, cond, List, [], ◌∷◌, ◌++◌, Option, Some, None, refl, sym, ap, ◌∙◌, subst}
 use Rattle.std.proofs.lemmas.Bool.{cases_Bool}
-use Rattle.std.proofs.lemmas.Bool.Decides.{nat_tests}
 use Rattle.nor_device.specs.declared.step.Step.{Step}
-use Rattle.nor_device.specs.declared.nor.StepEnd.{StepEnd}
 use Rattle.nor_device.specs.declared.nor.StepEnd.TheVariants as ends
 use Rattle.nor_device.specs.declared.nor.NorFault.{NorFault}
 use Rattle.nor_device.specs.declared.nor.NorFault.TheVariants.{Failed, Off}
@@ -16,12 +14,11 @@ use Rattle.bus_hub.specs.declared.did.Base.{Base}
 use Rattle.bus_hub.specs.declared.did.Did.{Did}
 use Rattle.bus_hub.specs.declared.did.Did.TheVariants.{Opened, Closed, Broken, Fetched, Noted, Denied, Mapping, Unmapping, Missed, Masked}
 use Rattle.bus_hub.specs.declared.did.Running.{Running}
-use Rattle.bus_hub.specs.Hub.{Hub, Stands, begun, state_of}
-use Rattle.bus_hub.specs.Log.{Item, Rule, Ruled, Runs, State, change, item, made_whole, of_core, reached}
-use Rattle.bus_hub.proofs.Logs.{kept, reached-append, ruled-back}
-use Rattle.power_cut.specs.Device.{IsUnbroken, MayEnd, MayRefuse, MayTear, MustRefuse, bytes_of, faults_of, is_off, setting_of}
+use Rattle.bus_hub.specs.Hub.{Hub, Stands, begun}
+use Rattle.bus_hub.specs.Log.{Item, Rule, Ruled, Runs, State, change, made_whole, of_core, reached}
+use Rattle.bus_hub.proofs.Logs.{kept}
+use Rattle.power_cut.specs.Device.{MayEnd, MayRefuse, MayTear, MustRefuse, bytes_of, faults_of, is_off, setting_of}
 use Rattle.power_cut.specs.Refused.{IsRefusal}
-use Rattle.power_cut.specs.Leg.{share_of}
 use Rattle.power_cut.proofs.EndsLemmas.{by_choice, refused_by_choice}
 
 abbrev Choice : Type 0
@@ -83,9 +80,9 @@ module _ {K P : Type 0} (part : K → ℕ → P) (grants : P → Step → Type 0
 
   -- ---- behind a chosen step nothing is begun any more
 
-  record Stopped (set : Choice) (n : ℕ) (s : State K) : Type 0 where
-    idle : s.running ≡ None
-    steps : s.steps ≡ n
+  pub record Stopped (set : Choice) (n : ℕ) (s : State K) : Type 0 where
+    pub idle : s.running ≡ None
+    pub steps : s.steps ≡ n
 
   none_runs : (c : ℕ) (Q : Running → Type 0) (o : Option Running) → o ≡ None → Runs c Q o → ⊥
   none_runs c Q None none runs = runs
@@ -112,14 +109,14 @@ module _ {K P : Type 0} (part : K → ℕ → P) (grants : P → Step → Type 0
   stopped_item set n s c (Missed at len) bad rule is = is
   stopped_item set n s c (Masked at len) bad rule is = is
 
-  stopped_log : (set : Choice) (n : ℕ) (s : State K) (log : List Item) → Bad set n
+  pub stopped_log : (set : Choice) (n : ℕ) (s : State K) (log : List Item) → Bad set n
       → IsRuled set s log → Stopped set n s → Stopped set n (reached after s log)
   stopped_log set n s log bad ruled is =
       kept MayEnd MayTear MayRefuse MustRefuse part grants after set (Stopped set n)
       (λ t c did small rule q. stopped_item set n t c did bad rule q) s log ruled is
 
   -- a refusal comes behind a chosen step, or of it
-  refused_here : (set : Choice) (s : State K) (c : ℕ) (did : Did) → IsRefusal did
+  pub refused_here : (set : Choice) (s : State K) (c : ℕ) (did : Did) → IsRefusal did
       → Obeys set s c did → Bad set s.steps × Stopped set s.steps (change after s c did)
   refused_here set s c (Opened k regs step) refusal rule = absurd refusal
   refused_here set s c (Closed k regs) refusal rule = absurd refusal

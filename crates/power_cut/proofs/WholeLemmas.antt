@@ -1,5 +1,5 @@
 -- An update from leg to leg: what each leg finds, and what is left where it is the last.
-use Rattle.std.proofs.Common.{◌≡◌, ◌≢◌, ◌⊎◌, ◌↔◌, inl, inr, Bool, true, false, ℕ, ◌==◌, ◌<◌, ◌^◌, List, [], ◌∷◌, ◌++◌, length, Option, Some, None, Result, Ok, Err, refl, sym, ap, ◌∙◌, subst, arith}
+use Rattle.std.proofs.Common.{◌≡◌, ◌≢◌, ◌⊎◌, inl, inr, Bool, true, false, ℕ, ◌==◌, ◌<◌, ◌^◌, List, [], ◌∷◌, length, Option, Some, None, Result, Ok, Err, refl, sym, ap, ◌∙◌, subst, arith}
 use Rattle.std.specs.Prelude.{◌&&◌, nat_lt, if◌then◌else◌, IfOk}
 use Rattle.std.specs.Borrow.{Bor}
 use Rattle.std.proofs.lemmas.Bool.{cases_Bool}
@@ -13,18 +13,15 @@ use Rattle.crash_images.specs.Cut.{CutDevice, IsAhead, restarted, unspent_of}
 use Rattle.crash_images.specs.Crash.{LeftAfter}
 use Rattle.partition_table.specs.declared.app.App.{App}
 use Rattle.partition_table.specs.Layout.{IsPlaced, Places}
-use Rattle.otadata.specs.declared.entry.Entry.{Entry}
 use Rattle.otadata.specs.Entry.{IsStored}
-use Rattle.boot_select.specs.Boots.{entries_in, images_in}
+use Rattle.boot_select.specs.Boots.{entries_in}
 use Rattle.rollback.specs.declared.rewrite.Rewrite.{Rewrite}
-use Rattle.rollback.specs.Boot.{boot_writes}
 use Rattle.rollback.specs.Boots.{boots_in}
 use Rattle.rollback.specs.Rewrite.{restated, with_state}
 use Rattle.image_layout.specs.Whole.{Whole}
 use Rattle.image_verify.specs.declared.bad.BadImage.{BadImage}
 use Rattle.image_verify.specs.Bad.{bad}
 use Rattle.image_verify.specs.Held.{held}
-use Rattle.bus_hub.specs.Room.{Kept}
 use Rattle.boot_run.specs.declared.aims.Aim.{Aim}
 use Rattle.boot_run.specs.declared.booted.Booted.{Booted}
 use Rattle.boot_run.specs.Rewriting.{rewrite, rewrites}
@@ -37,11 +34,12 @@ use Rattle.power_cut.specs.declared.legs.Ran.{Ran}
 use Rattle.power_cut.specs.declared.legs.Upto.{Upto}
 use Rattle.power_cut.specs.declared.legs.Upto.TheVariants.{Session, Boot, Confirm}
 use Rattle.power_cut.specs.declared.outcome.Trial.{Trial}
-use Rattle.power_cut.specs.Device.{HasEnd, IsRan, IsReady, IsUnbroken, IsWholeEnd, is_off, running_in}
-use Rattle.power_cut.specs.Update.{BootsEither, Opens, image_of, sealed_end, session_end, slot_size}
+use Rattle.power_cut.specs.Device.{HasEnd, IsReady, IsWholeEnd, running_in}
+use Rattle.power_cut.specs.Update.{BootsEither, Opens, sealed_end, session_end, slot_size}
 use Rattle.power_cut.specs.Kept.{IsStarted, KeepsConfirm, KeepsSession, MayConfirm}
-use Rattle.power_cut.specs.Whole.{AreDone, BehindBoot, BehindSession, BootsNew, EndsWith, HasBooted, IsBootLeg, IsClosed, IsOutcome, IsTrial, boot_steps, confirm_of, is_done, wants_boot, wants_confirm}
+use Rattle.power_cut.specs.Whole.{AreDone, BehindBoot, BehindSession, BootsNew, EndsAsChosen, EndsWith, HasBooted, IsBootLeg, IsClosed, IsOutcome, boot_steps, confirm_of, is_done, wants_boot, wants_confirm}
 use Rattle.power_cut.specs.Behind.{IsAnnounced, IsBehind}
+use Rattle.power_cut.proofs.ChosenLemmas.{boot_chosen, confirm_chosen, session_chosen}
 use Rattle.power_cut.proofs.BehindLemmas.{announced_active, announced_boots, announced_writes, behind_boots, behind_some, beside_behind, beside_here, booted_first, booted_waits, confirmed_new, confirming, left_behind, session_announced, two, waiting}
 
 -- what follows of an answer
@@ -71,7 +69,7 @@ done_whole Empty is = absurd cc
 done_whole (Bad why) is = absurd cc
 
 -- where a session ends so, its image is whole
-sealed_whole : ShowsNone → (size : ℕ) (image : List ℕ) → session_end size image ≡ Done
+pub sealed_whole : ShowsNone → (size : ℕ) (image : List ℕ) → session_end size image ≡ Done
     → Whole image size
 sealed_whole shown size [] is = absurd cc
 sealed_whole shown size (byte ∷ bytes) is = at (cases_Bool (byte == 0xE9))
@@ -149,14 +147,16 @@ module _ (shown : ShowsNone) (layout : Places) (aim : Aim) (image : List ℕ) (o
         sound : HasEnd old ran.dev.steps (session_end (slot_size layout aim.slot) image)
             ran.leg.end
             → session_end (slot_size layout aim.slot) image ≡ Done
-        sound end = (subst (HasEnd old ran.dev.steps (session_end (slot_size layout aim.slot) image))
+        sound end = (subst (HasEnd old ran.dev.steps (session_end
+            (slot_size layout aim.slot) image))
             (done_is ran.leg.end done) end).1
 
     module _ (done : is_done ran.leg.end ≡ true) where
       abbrev mid : List ℕ
       mid = ran.dev.inner.bytes
 
-      steps_are : boot_steps layout mid ≡ rewrite layout.otadata (waiting layout first aim image opens)
+      steps_are : boot_steps layout mid ≡ rewrite layout.otadata
+          (waiting layout first aim image opens)
       steps_are = ap (rewrites layout.otadata) (announced_writes layout first aim image opens mid
           (announced done))
 
@@ -256,7 +256,7 @@ module _ (shown : ShowsNone) (layout : Places) (aim : Aim) (image : List ℕ) (o
     pub outcome_session : (writes : Writes) (confirms : Confirms) (t : Trial) (legs : List Leg)
         → writes ran → legs ≡ ran.leg ∷ [] → (wants_boot upto && is_done ran.leg.end) ≡ false
         → IsClosed layout legs ran.journal None ran.dev t
-        → IsOutcome writes confirms layout first aim image upto t
+        → IsOutcome writes confirms layout old aim image upto t
     outcome_session writes confirms t legs written legs_are stops closed = record {
       trial = record {
         session = ran;
@@ -266,6 +266,8 @@ module _ (shown : ShowsNone) (layout : Places) (aim : Aim) (image : List ℕ) (o
             (sym stops)
             (subst (λ (l : List Leg). EndsWith l None ran.dev t) legs_are closed.ends);
       };
+      end = subst (EndsAsChosen old) (sym (closed.ends.legs_are ∙ legs_are))
+          (session_chosen old ran (session_end (slot_size layout aim.slot) image) keeps.ran_is);
       boots = subst (BootsEither layout first aim image) (sym closed.ends.flash_is)
           keeps.holds.boots;
       after = closed.after;
@@ -318,7 +320,7 @@ module _ (shown : ShowsNone) (layout : Places) (aim : Aim) (image : List ℕ) (o
           pub outcome_boot : (writes : Writes) (confirms : Confirms) (t : Trial) (legs : List Leg)
               → writes ran → legs ≡ ran.leg ∷ leg ∷ [] → IsBootLeg layout mid dev leg
               → confirm_of upto booted ≡ None → IsClosed layout legs ran.journal None dev t
-              → IsOutcome writes confirms layout first aim image upto t
+              → IsOutcome writes confirms layout old aim image upto t
           outcome_boot writes confirms t legs written legs_are boot_is none closed = record {
             trial = record {
               session = ran;
@@ -335,6 +337,10 @@ module _ (shown : ShowsNone) (layout : Places) (aim : Aim) (image : List ℕ) (o
                         (subst (λ (l : List Leg). EndsWith l None dev t) legs_are closed.ends);
                   });
             };
+            end = subst (EndsAsChosen old) (sym (closed.ends.legs_are ∙ legs_are))
+                (boot_chosen old ran (session_end (slot_size layout aim.slot) image) keeps.ran_is
+                (done_is ran.leg.end done_here) dev leg
+                (subst (λ (d : CutDevice Ram). IsBootLeg layout d dev leg) mid_is boot_is).ran);
             boots = subst (BootsEither layout first aim image) (sym closed.ends.flash_is)
                 (behind_boots layout first aim image opens dev.inner.bytes behind_boot);
             after = closed.after;
@@ -375,7 +381,8 @@ module _ (shown : ShowsNone) (layout : Places) (aim : Aim) (image : List ℕ) (o
 
             module _ (last : Ran) (kept : KeepsConfirm layout write dev last) where
               behind_last : IsBehind layout first aim image last.dev.inner.bytes
-              behind_last = confirmed_behind ran keeps done_here dev leg it whole_boot write write_is
+              behind_last = confirmed_behind ran keeps done_here dev leg it whole_boot write
+                  write_is
                   last kept
 
               pub last_some : boots_in held layout last.dev.inner.bytes ≢ None
@@ -393,25 +400,29 @@ module _ (shown : ShowsNone) (layout : Places) (aim : Aim) (image : List ℕ) (o
                   → IsBootLeg layout mid dev leg
                   → (at : Bor Booted) (of : Bor Rewrite) → confirms dev at of last → at.now ≡ it
                   → of.now ≡ write → IsClosed layout legs ran.journal (Some last.journal) last.dev t
-                  → IsOutcome writes confirms layout first aim image upto t
+                  → IsOutcome writes confirms layout old aim image upto t
               outcome_confirm writes confirms t legs written legs_are boot_is at of confirmed at_is
                   of_is closed = record {
                     trial = record {
                       session = ran;
                       written = written;
                       journal = closed.session_is;
-                      behind = subst (λ b. BehindSession confirms layout first b upto ran.leg ran.dev t)
+                      behind = subst
+                          (λ b. BehindSession confirms layout first b upto ran.leg ran.dev t)
                           (sym goes) (record {
                             new = dev;
                             leg = leg;
-                            booted = subst (λ (d : CutDevice Ram). IsBootLeg layout d dev leg) mid_is
+                            booted = subst (λ
+                                (d : CutDevice Ram). IsBootLeg layout d dev leg) mid_is
                                 boot_is;
                             behind = subst (λ b. BehindBoot confirms layout first b
                                 (ran.leg ∷ leg ∷ []) dev t) (sym goes_on) (record {
                                   at = at;
                                   write = of;
-                                  may = subst (λ b. MayConfirm layout first dev b of.now) (sym at_is)
-                                      (subst (MayConfirm layout first dev it) (sym of_is) confirm_may);
+                                  may = subst (λ b. MayConfirm layout first dev b of.now)
+                                      (sym at_is)
+                                      (subst (MayConfirm layout first dev it)
+                                          (sym of_is) confirm_may);
                                   ran = last;
                                   confirmed = confirmed;
                                   ends = subst
@@ -420,12 +431,20 @@ module _ (shown : ShowsNone) (layout : Places) (aim : Aim) (image : List ℕ) (o
                                 });
                           });
                     };
+                    end = subst (EndsAsChosen old) (sym (closed.ends.legs_are ∙ legs_are))
+                        (confirm_chosen old ran (session_end (slot_size layout aim.slot) image)
+                        keeps.ran_is (done_is ran.leg.end done_here) dev leg
+                        (subst (λ (d : CutDevice Ram). IsBootLeg layout d dev leg) mid_is
+                            boot_is).ran
+                        last kept.ran_is);
                     boots = subst (BootsEither layout first aim image) (sym closed.ends.flash_is)
-                        (behind_boots layout first aim image opens last.dev.inner.bytes behind_last);
+                        (behind_boots layout first aim image opens last.dev.inner.bytes
+                            behind_last);
                     after = closed.after;
                     installed = λ no_boot done.
                         subst (BootsNew layout aim image) (sym closed.ends.flash_is)
-                        (confirmed_boots_new ran keeps done_here dev leg it whole_boot write write_is
+                        (confirmed_boots_new ran keeps done_here dev leg it whole_boot write
+                            write_is
                         last kept
                         (ap is_done (subst AreDone (closed.ends.legs_are ∙ legs_are) done).1.1.0));
                   }

@@ -1,7 +1,6 @@
 -- What stands behind the data of an update, through the boot and the confirmation.
 use Rattle.std.specs.Prelude.{◌≡◌, ℕ, List, length, Some}
 use Rattle.nor_device.specs.Nor.{part_of}
-use Rattle.otadata.specs.declared.entry.Entry.{Entry}
 use Rattle.partition_table.specs.declared.app.App.TheVariants.{Ota}
 use Rattle.partition_table.specs.Layout.{Places}
 use Rattle.boot_select.specs.Boots.{entries_in, images_in}

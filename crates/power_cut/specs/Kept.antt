@@ -1,5 +1,5 @@
 -- The two legs of an update in which both cores are at work, and what a trial needs of them.
-use Rattle.std.specs.Prelude.{◌≡◌, ◌≢◌, ℕ, ◌<◌, Bool, List, [], ◌∷◌, length, Some, None, Result, Ok}
+use Rattle.std.specs.Prelude.{◌≡◌, ◌≢◌, ℕ, ◌<◌, Bool, List, [], length, Some, None, Result, Ok}
 use Rattle.nor_device.specs.declared.nor.NorFault.{NorFault}
 use Rattle.nor_device.specs.Nor.{part_of}
 use Rattle.nor_device.specs.Ram.{Ram}

@@ -1,5 +1,5 @@
 -- A leg in which both cores are at work: what each of them did, in one log.
-use Rattle.std.specs.Prelude.{◌≡◌, ℕ, zero, suc, ◌-◌, List, ◌++◌, Option, None, Result, Ok}
+use Rattle.std.specs.Prelude.{◌≡◌, ℕ, zero, suc, ◌-◌, List, ◌++◌, Result}
 use Rattle.nor_device.specs.declared.nor.NorFault.{NorFault}
 use Rattle.nor_device.specs.declared.step.Step.{Step}
 use Rattle.nor_device.specs.Ram.{Ram}
@@ -69,8 +69,8 @@ pub record IsSameFlash (dev other : CutDevice Ram) : Type 0 where
   pub setting : setting_of dev ≡ setting_of other
   pub steps : dev.steps ≡ other.steps
 
--- a leg: `drives` tells which shares the driver may have that ended so, `works` the same of the other
--- core, `pages` with which map it begins, and `holds` what holds of the flash. One log of both
+-- a leg: `drives` tells which shares the driver may have that ended so, `works` the same of the
+-- other core, `pages` with which map it begins, and `holds` what holds of the flash. One log of both
 -- shares leads from the device at its begin to the flash behind it, with this journal; and at every
 -- moment, of every flash that a loss of power may leave, it holds. `back` is the device as the bus
 -- gave it back.

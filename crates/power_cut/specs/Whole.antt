@@ -1,5 +1,5 @@
 -- A whole update: its legs, and how far it came.
-use Rattle.std.specs.Prelude.{◌≡◌, ◌≢◌, ℕ, Bool, true, false, ◌&&◌, List, [], ◌∷◌, ◌++◌, Option, Some, None, Result, Ok, Err, IfOk}
+use Rattle.std.specs.Prelude.{◌≡◌, ◌≢◌, ℕ, ◌+◌, Bool, true, false, ◌&&◌, List, [], ◌∷◌, ◌++◌, Option, Some, None, Result, Ok, Err, IfOk}
 use Rattle.std.specs.Borrow.{Bor}
 use Rattle.nor_device.specs.declared.nor.NorFault.{NorFault}
 use Rattle.nor_device.specs.declared.nor.NorFault.TheVariants.{Failed, Off}
@@ -28,7 +28,7 @@ use Rattle.power_cut.specs.declared.legs.Ran.{Ran}
 use Rattle.power_cut.specs.declared.legs.Upto.{Upto}
 use Rattle.power_cut.specs.declared.legs.Upto.TheVariants.{Session, Boot, Confirm}
 use Rattle.power_cut.specs.declared.outcome.Trial.{Trial}
-use Rattle.power_cut.specs.Device.{IsRan, IsReady, MayEnd, MayRefuse, MayTear, MustRefuse, setting_of}
+use Rattle.power_cut.specs.Device.{HasEnd, IsRan, IsReady, MayEnd, MayRefuse, MayTear, MustRefuse, setting_of}
 use Rattle.power_cut.specs.Update.{BootsEither}
 use Rattle.power_cut.specs.Kept.{MayConfirm}
 
@@ -133,7 +133,8 @@ module _ (confirms : CutDevice Ram → Bor Booted → Bor Rewrite → Ran → Ty
 
 -- an update on a device, as far as this: a session, a boot and a confirmation, and the first leg
 -- whose end isn't Done is the last. `writes` tells which sessions there may be.
-pub record IsTrial (writes : Ran → Type 0) (confirms : CutDevice Ram → Bor Booted → Bor Rewrite → Ran → Type 0)
+pub record IsTrial (writes : Ran → Type 0)
+    (confirms : CutDevice Ram → Bor Booted → Bor Rewrite → Ran → Type 0)
     (layout : Places) (first : List ℕ) (upto : Upto) (t : Trial) : Type 0 where
   pub session : Ran
   pub written : writes session
@@ -158,13 +159,30 @@ pub record IsClosed (layout : Places) (legs : List Leg) (session : Kept) (confir
 abbrev pub BootsNew : Places → Aim → List ℕ → List ℕ → Type 0
 BootsNew layout aim image left = boots_in held layout left ≡ Some (Ota aim.slot, image)
 
+-- the steps of all legs
+abbrev pub total_steps : List Leg → ℕ
+total_steps [] = 0
+total_steps (leg ∷ legs) = leg.steps + total_steps legs
+
+-- how the last leg ended
+abbrev pub last_end : LegEnd → List Leg → LegEnd
+last_end end [] = end
+last_end end (leg ∷ legs) = last_end leg.end legs
+
+-- how an update ends that began on this device: with a cut or a failure exactly where the chosen
+-- step was begun in it, which is then its last one
+abbrev pub EndsAsChosen : CutDevice Ram → List Leg → Type 0
+EndsAsChosen dev legs =
+    HasEnd dev (dev.steps + total_steps legs) (last_end Done legs) (last_end Done legs)
+
 -- an update and what it has left: one of both applications boots, and some in every case; and where
 -- its last leg is made whole and is no boot, the new one
 pub record IsOutcome (writes : Ran → Type 0)
     (confirms : CutDevice Ram → Bor Booted → Bor Rewrite → Ran → Type 0) (layout : Places)
-    (first : List ℕ) (aim : Aim) (image : List ℕ) (upto : Upto) (t : Trial) : Type 0 where
-  pub trial : IsTrial writes confirms layout first upto t
-  pub boots : BootsEither layout first aim image t.flash.items
+    (old : CutDevice Ram) (aim : Aim) (image : List ℕ) (upto : Upto) (t : Trial) : Type 0 where
+  pub trial : IsTrial writes confirms layout old.inner.bytes upto t
+  pub end : EndsAsChosen old t.legs.items
+  pub boots : BootsEither layout old.inner.bytes aim image t.flash.items
   pub after : IsBoot layout (images_in held layout t.flash.items)
       (entries_in layout t.flash.items) (Some t.after)
   pub installed : upto ≢ Boot → AreDone t.legs.items → BootsNew layout aim image t.flash.items

@@ -9,6 +9,8 @@ mod legs;
 mod outcome;
 mod run;
 mod runner;
+#[cfg(test)]
+mod tests;
 
 pub use behind::leg_behind;
 pub use legs::{Leg, LegEnd, Ran, Upto};

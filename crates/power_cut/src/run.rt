@@ -14,7 +14,7 @@ ghost use Rattle.power_cut.specs.declared.legs.Ran.{Ran as Left};
 ghost use Rattle.power_cut.specs.Device.{IsReady};
 ghost use Rattle.power_cut.specs.Update.{BootsEither, Opens};
 ghost use Rattle.power_cut.specs.Kept.{KeepsConfirm, KeepsSession, MayConfirm};
-ghost use Rattle.power_cut.specs.Whole.{AreDone, BootsNew, IsOutcome, IsTrial, confirm_of, is_done, wants_boot};
+ghost use Rattle.power_cut.specs.Whole.{AreDone, BootsNew, EndsAsChosen, IsOutcome, IsTrial, confirm_of, is_done, wants_boot};
 
 use crate::booting::boot_leg;
 use crate::closing::close;
@@ -33,7 +33,7 @@ use rollback::Rewrite;
 
 /// Runs an update of `image` on a device, as far as `upto`: the runner's
 /// session, then, with the power on again, a boot, then the runner's confirmation. The first leg
-/// that is not made whole is the last.
+/// that is not made whole is the last. Its end names the chosen step exactly where that was begun.
 ///
 /// Of the flash that is left boots the application that ran or the new one, whole, but for a chance
 /// match; some application boots in every case.
@@ -61,6 +61,7 @@ pub fn trial<U: Runner>(
         (λ ran. U.has_written runner.now dev aim.entry image.entry (Ok ran))
         (λ d at write ran. U.has_confirmed runner.now d at write (Ok ran))
         layout.now dev.inner.bytes upto t) }
+    ensures end { IfOk result (λ t. EndsAsChosen dev t.legs.items) }
     ensures boots { IfOk result (λ t.
         BootsEither layout.now dev.inner.bytes aim.now image.now t.flash.items) }
     ensures after { IfOk result (λ t. IsBoot layout.now (images_in held layout.now t.flash.items)
@@ -95,7 +96,7 @@ fn run<U: Runner>(
     ensures outcome { IfOk result (IsOutcome
         (λ ran. U.has_written runner.now dev aim.entry image.entry (Ok ran))
         (λ d at write ran. U.has_confirmed runner.now d at write (Ok ran))
-        layout.now dev.inner.bytes aim.now image.now upto) }
+        layout.now dev aim.now image.now upto) }
 {
     whole_images_show_no_fault();
     let Ran { dev, journal, leg } = runner.session(dev, aim, image)?;

@@ -23,13 +23,15 @@ pub trait Runner {
     ghost may_write: { Self → CutDevice Ram → Bor Aim → Bor (List ℕ) → Type 0 };
 
     /// The session may answer so.
-    ghost has_written: { Self → CutDevice Ram → Bor Aim → Bor (List ℕ) → Result Ran Memory → Type 0 };
+    ghost has_written: { Self → CutDevice Ram → Bor Aim → Bor (List ℕ) → Result Ran Memory
+        → Type 0 };
 
     /// The confirmation may be run on this device, of what was booted, with this rewrite.
     ghost may_confirm: { Self → CutDevice Ram → Bor Booted → Bor Rewrite → Type 0 };
 
     /// The confirmation may answer so.
-    ghost has_confirmed: { Self → CutDevice Ram → Bor Booted → Bor Rewrite → Result Ran Memory → Type 0 };
+    ghost has_confirmed: { Self → CutDevice Ram → Bor Booted → Bor Rewrite → Result Ran Memory
+        → Type 0 };
 
     /// Writes the new application and announces it.
     fn session(&self, dev: CutNor<RamNor>, aim: &Aim, image: &[u8]) -> Result<Ran, Memory>

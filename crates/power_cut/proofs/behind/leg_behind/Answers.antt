@@ -1,4 +1,4 @@
-use Rattle.std.proofs.Common.{◌≡◌, ◌+◌, ◌-◌, ◌∙◌, ap, subst, ℕ, arith}
+use Rattle.std.proofs.Common.{◌-◌, ◌∙◌, ap, ℕ, arith}
 use Rattle.power_cut.specs.Refused.{end_asked}
 use Rattle.power_cut.proofs.EndsLemmas.{ran_by}
 use Rattle.power_cut.proofs.behind.leg_behind.Goals as goal

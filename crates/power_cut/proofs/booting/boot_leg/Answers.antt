@@ -1,4 +1,4 @@
-use Rattle.std.proofs.Common.{◌≡◌, ◌<◌, ◌^◌, ◌∙◌, ap, arith}
+use Rattle.std.proofs.Common.{◌<◌, ◌^◌, ◌∙◌, ap, arith}
 use Rattle.boot_run.specs.Booted.{boot_answer}
 use Rattle.power_cut.specs.Whole.{end_by}
 use Rattle.power_cut.proofs.EndsLemmas.{boot_has, boot_is, boot_rises}

@@ -1,7 +1,7 @@
-use Rattle.std.proofs.Common.{◌≡◌, ◌∙◌, ap, refl, sym, List, ◌∷◌, ◌++◌, [], Ok}
+use Rattle.std.proofs.Common.{◌∙◌, ap, refl, sym, List, ◌∷◌, ◌++◌, []}
 use Rattle.power_cut.specs.declared.legs.Leg.{Leg}
 use Rattle.power_cut.specs.Kept.{KeepsConfirm}
-use Rattle.power_cut.proofs.WholeLemmas.{booted_placed, booted_some, confirm_may, last_placed, last_small, last_some, outcome_boot, outcome_confirm, outcome_session}
+use Rattle.power_cut.proofs.WholeLemmas.{booted_some, confirm_may, last_placed, last_some, outcome_boot, outcome_confirm, outcome_session}
 use Rattle.power_cut.proofs.run.run.Goals as goal
 
 -- the session was the last leg

@@ -1,4 +1,3 @@
-use Rattle.power_cut.specs.Whole.{IsOutcome}
 use Rattle.power_cut.proofs.WholeLemmas.{if_ok}
 use Rattle.power_cut.proofs.run.trial.Goals as goal
 
