@@ -1,3 +1,4 @@
+pub mod PageLemmas
 pub mod StepsLemmas
 pub mod ShareLemmas
 pub mod OpenLemmas
@@ -6,3 +7,14 @@ mod ActLemmas
 pub mod WorkLemmas
 mod RoomLemmas
 mod FreshLemmas
+mod PlaceLemmas
+mod DriverRoomLemmas
+mod ShareEndLemmas
+mod DriveLemmas
+mod BeginLemmas
+mod HoldsLemmas
+mod OutcomeLemmas
+mod NumberLemmas
+mod DuoLemmas
+mod DrivingLemmas
+mod WriteAllLemmas

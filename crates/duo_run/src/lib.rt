@@ -2,10 +2,16 @@
 #![tactic(auto)]
 
 mod actions;
+mod both;
+mod driver;
+mod duo;
+mod job;
 mod laws;
+mod pages;
 mod room;
 #[cfg(test)]
 mod tests;
 mod worker;
 
+pub use duo::Duo;
 pub use laws::laws_of_workers;

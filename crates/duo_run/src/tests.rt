@@ -97,7 +97,7 @@ fn lone<R: Wait>(rt: &R, alloc: Global, text: &[u8], rows: &[Row]) -> Option<(Jo
     let counts = Counts {
         calls: Cell::new(0),
     };
-    let (right, end) = run_worker(rt, &gates, right, &script, &table, &counts);
+    let (right, end) = run_worker(rt, gates.core(right), &script, &table, &counts);
     let (_dev, journal, _duty) = gates.close(left, right).into_parts();
     Some((journal, end.is_ok(), counts.calls.get()))
 }

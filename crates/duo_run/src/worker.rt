@@ -1,12 +1,11 @@
 //! The second core works on its script.
 
-ghost use Rattle.std.specs.Prelude.{◌≡◌};
 ghost use Rattle.flash_ops.specs.Told.{fault_of};
 ghost use Rattle.duo_run.specs.Works.{CanWork, HasWorked};
 
 use crate::actions::act;
 use bus_hub::Duty;
-use cache_gate::{Core, Ended, Gates};
+use cache_gate::{Core, Ended, RestCore};
 use core_script::Script;
 use crash_images::Crash;
 use flash_ops::{Pace, Point, StepNo};
@@ -42,20 +41,17 @@ pub(crate) fn work<'w, R: Wait, D: Crash, K: Duty, P: Pace>(
     (core, Ok(()))
 }
 
-/// The same from rest to rest, at the gates.
-pub(crate) fn run_worker<R: Wait, D: Crash, K: Duty, P: Pace>(
+/// The same from rest to rest.
+pub(crate) fn run_worker<'w, R: Wait, D: Crash, K: Duty, P: Pace>(
     rt: &R,
-    gates: &Gates<D, K>,
-    ended: Ended<D, K>,
+    core: RestCore<'w, D, K>,
     script: &Script,
     table: &Table,
     pace: &P,
 ) -> (Ended<D, K>, Result<(), StepNo>)
-    requires table { ended.table ≡ gates.now }
-    requires can { CanWork K.part K.grants K.moved table.now script.now ended }
-    ensures { HasWorked table.now script.now (fault_of result.1) ended result.0 }
+    requires can { CanWork K.part K.grants K.moved table.now script.now core }
+    ensures { HasWorked table.now script.now (fault_of result.1) core.entry result.0 }
 {
-    let core = gates.core(ended).start(rt);
-    let (core, end) = work(rt, core, script, table, pace);
+    let (core, end) = work(rt, core.start(rt), script, table, pace);
     (core.rest(rt).ended(), end)
 }

@@ -6,6 +6,6 @@ use Rattle.duo_run.proofs.worker.run_worker.Goals as goal
 pub returns : goal.returns
 returns g c =
     rw c.ended.ensures
-    (worked_kept c.args.table.now 1 c.args.script.now (fault_of c.work-core.result.1) c.args.ended
-    c.start-core.result c.work-core.result.0 c.rest.result
-    (rw c.core.ensures at c.start-core.ensures) c.work-core.ensures c.rest.ensures)
+    (worked_kept c.args.table.now 1 c.args.script.now (fault_of c.work-core.result.1) c.args.core
+    c.start.result c.work-core.result.0 c.rest.result
+    c.start.ensures c.work-core.ensures c.rest.ensures)

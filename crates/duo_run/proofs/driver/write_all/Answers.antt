@@ -1,0 +1,85 @@
+-- Each piece goes on where the last one ended, until none is left.
+use Rattle.std.proofs.Common.{◌≡◌, ◌≤◌, ◌∙◌, ap, sym, subst, arith, ℕ, List, Option, length, drop, length-drop}
+use Rattle.std.proofs.lemmas.Bool.Decides.{nat_tests}
+use Rattle.cache_gate.specs.Own.{Own}
+use Rattle.flash_ops.specs.Asked.{HasRoomFor}
+use Rattle.ota_session.specs.SessionTold.{HasWritten, IsNotWritten, piece_moves}
+use Rattle.duo_run.proofs.WriteAllLemmas.{round_done, round_next, round_refused, round_room, up_to_all}
+use Rattle.duo_run.proofs.driver.write_all.Goals as goal
+
+-- the next piece
+pub write-requires-clause-next : goal.write-requires-clause-next
+write-requires-clause-next g c =
+    let rest = c.loop-rest.rest.now in
+    let some : 1 ≤ length rest =
+    grind (arith, nat_tests, c.is_empty.ensures, c.loop-rest-test.true) in
+    round_next c.args.beat.now.probe c.args.image.now c.args.ota c.loop-rest.ota rest
+    c.split_at_most.result.0.now c.split_at_most.result.1.now c.loop-rest.invariant.up
+    c.requires.nothing c.requires.long c.split_at_most.ensures.first c.split_at_most.ensures.rest
+    some
+
+pub write-requires-clause-room : goal.write-requires-clause-room
+write-requires-clause-room g c =
+    let w = c.loop-rest.ota in
+    let rest = c.loop-rest.rest.now in
+    let piece = c.split_at_most.result.0.now in
+    let some : 1 ≤ length rest =
+    grind (arith, nat_tests, c.is_empty.ensures, c.loop-rest-test.true) in
+    subst (λ (p : Option ℕ). HasRoomFor w.core.base w.core.core w.core.share
+    (piece_moves p w piece)) (sym c.loop-rest.invariant.probe)
+    (round_room c.args.beat.now.probe c.args.image.now c.args.ota w rest piece
+    c.split_at_most.result.1.now c.loop-rest.invariant.up c.requires.nothing c.requires.long
+    c.split_at_most.ensures.first c.split_at_most.ensures.rest some)
+
+-- it is refused
+pub returns-in-Err-clause-err : goal.returns-in-Err-clause-err
+returns-in-Err-clause-err g c =
+    let w = c.loop-rest.ota in
+    let rest = c.loop-rest.rest.now in
+    let piece = c.split_at_most.result.0.now in
+    let some : 1 ≤ length rest =
+    grind (arith, nat_tests, c.is_empty.ensures, c.loop-rest-test.true) in
+    round_refused c.args.beat.now.probe c.args.image.now c.args.ota w rest piece
+    c.split_at_most.result.1.now c.loop-rest.invariant.up c.requires.nothing c.requires.long
+    c.split_at_most.ensures.first c.split_at_most.ensures.rest some c.in-Err.back.no
+    c.in-Err.back.core
+    (subst (λ (p : Option ℕ). IsNotWritten p piece w c.in-Err.back.no c.in-Err.back.core)
+    c.loop-rest.invariant.probe c.in-Err.ensures.err)
+
+-- fewer bytes are left
+pub loop-rest-smaller : goal.loop-rest-smaller
+loop-rest-smaller g c =
+    let rest = c.loop-rest.rest.now in
+    let later = c.split_at_most.result.1.now in
+    let some : 1 ≤ length rest =
+    grind (arith, nat_tests, c.is_empty.ensures, c.loop-rest-test.true) in
+    let e : length later ≡ length (drop 4096 rest) = ap length c.split_at_most.ensures.rest in
+    let f = length-drop 4096 rest in omega arith
+
+-- it is written
+pub loop-rest-preserved : goal.loop-rest-preserved
+loop-rest-preserved g c =
+    let inv = c.loop-rest.invariant in
+    let w = c.loop-rest.ota in
+    let rest = c.loop-rest.rest.now in
+    let piece = c.split_at_most.result.0.now in
+    let some : 1 ≤ length rest =
+    grind (arith, nat_tests, c.is_empty.ensures, c.loop-rest-test.true) in
+    record {
+      up = round_done c.args.beat.now.probe c.args.image.now c.args.ota w rest piece
+          c.split_at_most.result.1.now inv.up c.requires.nothing c.requires.long
+          c.split_at_most.ensures.first c.split_at_most.ensures.rest some c.in-Ok.next
+          (subst (λ (p : Option ℕ). HasWritten p piece w c.in-Ok.next) inv.probe
+          c.in-Ok.ensures.ok);
+      probe = c.write.ensures.probe ∙ inv.probe;
+      pace = c.write.ensures.pace ∙ inv.pace;
+    }
+
+-- all is written
+pub returns-clause-ok : goal.returns-clause-ok
+returns-clause-ok g c =
+    let rest = c.loop-rest.rest.now in
+    let gone : length rest ≡ 0 =
+    grind (arith, nat_tests, c.is_empty.ensures, c.loop-rest-test.false) in
+    up_to_all c.args.beat.now.probe c.args.image.now c.args.ota c.loop-rest.ota rest
+    c.loop-rest.invariant.up c.requires.nothing gone
