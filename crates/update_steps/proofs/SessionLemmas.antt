@@ -64,7 +64,7 @@ whole_begins byte bytes limit whole =
     at (h ∷ hs) long magic text = let same : byte ≡ h = cc text in same ∙ magic
 
 -- of a whole image the steps are the data and then the entry
-image_whole : ShowsNone → (otadata : ℕ) (row : Row) (next : Rewrite) (image : List ℕ)
+pub image_whole : ShowsNone → (otadata : ℕ) (row : Row) (next : Rewrite) (image : List ℕ)
     → Whole image row.size
     → image_steps otadata row next image
     ≡ data_steps row.offset image ++ rewrite otadata next

@@ -1,0 +1,2 @@
+-- Base first. Crates above cite these lemmas.
+pub mod BehindLemmas

@@ -1,0 +1,108 @@
+-- A whole update: its legs, and how far it came.
+use Rattle.std.specs.Prelude.{◌≡◌, ◌≢◌, ℕ, Bool, true, false, ◌&&◌, List, [], ◌∷◌, ◌++◌, Option, Some, None, Result, IfOk}
+use Rattle.std.specs.Borrow.{Bor}
+use Rattle.nor_device.specs.declared.nor.NorFault.{NorFault}
+use Rattle.nor_device.specs.Ram.{Ram}
+use Rattle.crash_images.specs.Cut.{CutDevice, restarted}
+use Rattle.partition_table.specs.Layout.{Places}
+use Rattle.boot_select.specs.Boots.{entries_in, images_in}
+use Rattle.rollback.specs.declared.rewrite.Rewrite.{Rewrite}
+use Rattle.rollback.specs.Boot.{boot_writes}
+use Rattle.image_verify.specs.Held.{held}
+use Rattle.bus_hub.specs.Room.{Kept}
+use Rattle.boot_run.specs.declared.booted.Booted.{Booted}
+use Rattle.boot_run.specs.Booted.{IsBoot}
+use Rattle.boot_run.specs.Made.{AreMadeBy}
+use Rattle.boot_run.specs.Rewriting.{rewrites}
+use Rattle.power_cut.specs.declared.legs.Leg.{Leg}
+use Rattle.power_cut.specs.declared.legs.LegEnd.{LegEnd}
+use Rattle.power_cut.specs.declared.legs.LegEnd.TheVariants.{Done, Device, Cut, FirstByte, Empty, Bad}
+use Rattle.power_cut.specs.declared.legs.Ran.{Ran}
+use Rattle.power_cut.specs.declared.legs.Upto.{Upto}
+use Rattle.power_cut.specs.declared.legs.Upto.TheVariants.{Session, Boot, Confirm}
+use Rattle.power_cut.specs.declared.outcome.Trial.{Trial}
+use Rattle.power_cut.specs.Device.{IsRan, MayEnd, MayRefuse, MayTear, MustRefuse, setting_of}
+use Rattle.power_cut.specs.Kept.{MayConfirm}
+
+-- the boot of an update: the steps of a boot of this flash were made, or the first of them, and the
+-- answer is what boots
+pub record IsBootLeg (layout : Places) (old new : CutDevice Ram) (leg : Leg) : Type 0 where
+  pub ran : IsRan old new Done leg
+  pub answer : Result (Option Booted) NorFault
+  pub made : AreMadeBy MayEnd MayTear MayRefuse MustRefuse (setting_of old)
+      (rewrites layout.otadata (boot_writes (entries_in layout old.inner.bytes)))
+      old.steps new.steps (Some old.inner.bytes) (Some new.inner.bytes) answer
+  pub booted : IfOk answer (IsBoot layout (images_in held layout old.inner.bytes)
+      (entries_in layout old.inner.bytes))
+
+-- the leg was made whole
+abbrev pub is_done : LegEnd → Bool
+is_done Done = true
+is_done (Device k) = false
+is_done (Cut k) = false
+is_done (FirstByte byte) = false
+is_done Empty = false
+is_done (Bad why) = false
+
+-- a boot is to follow the session, and a confirmation the boot
+abbrev pub wants_boot : Upto → Bool
+wants_boot Session = false
+wants_boot Boot = true
+wants_boot Confirm = true
+
+abbrev pub wants_confirm : Upto → Bool
+wants_confirm Session = false
+wants_confirm Boot = false
+wants_confirm Confirm = true
+
+-- the update ends with these legs, this journal of a confirmation, and the flash of this device
+pub record EndsWith (legs : List Leg) (confirm : Option Kept) (dev : CutDevice Ram) (t : Trial)
+    : Type 0 where
+  pub legs_are : t.legs.items ≡ legs
+  pub confirm_is : t.confirm ≡ confirm
+  pub flash_is : t.flash.items ≡ dev.inner.bytes
+
+-- `confirms` tells which confirmations there may be, of a device, what was booted, and a rewrite
+module _ (confirms : CutDevice Ram → Bor Booted → Bor Rewrite → Ran → Type 0) (layout : Places)
+    (first : List ℕ) where
+  -- behind the boot: a confirmation of what was booted
+  pub record EndsConfirmed (legs : List Leg) (dev : CutDevice Ram) (t : Trial) : Type 0 where
+    pub at : Bor Booted
+    pub write : Bor Rewrite
+    pub may : MayConfirm layout first dev at.now write.now
+    pub ran : Ran
+    pub confirmed : confirms dev at write ran
+    pub ends : EndsWith (legs ++ ran.leg ∷ []) (Some ran.journal) ran.dev t
+
+  -- or nothing
+  abbrev pub BehindBoot : Bool → List Leg → CutDevice Ram → Trial → Type 0
+  BehindBoot false legs dev t = EndsWith legs None dev t
+  BehindBoot true legs dev t = EndsConfirmed legs dev t
+
+  -- behind the session: a boot of the device, whose power is on again
+  pub record EndsBooted (upto : Upto) (session : Leg) (old : CutDevice Ram) (t : Trial)
+      : Type 0 where
+    pub new : CutDevice Ram
+    pub leg : Leg
+    pub booted : IsBootLeg layout (restarted old) new leg
+    pub behind : BehindBoot (wants_confirm upto && is_done leg.end) (session ∷ leg ∷ []) new t
+
+  -- or nothing
+  abbrev pub BehindSession : Bool → Upto → Leg → CutDevice Ram → Trial → Type 0
+  BehindSession false upto session dev t = EndsWith (session ∷ []) None dev t
+  BehindSession true upto session dev t = EndsBooted upto session dev t
+
+-- an update on a device, as far as this: a session, a boot and a confirmation, and the first leg
+-- whose end isn't Done is the last. `writes` tells which sessions there may be.
+pub record IsTrial (writes : Ran → Type 0) (confirms : CutDevice Ram → Bor Booted → Bor Rewrite → Ran → Type 0)
+    (layout : Places) (first : List ℕ) (upto : Upto) (t : Trial) : Type 0 where
+  pub session : Ran
+  pub written : writes session
+  pub journal : t.session ≡ session.journal
+  pub behind : BehindSession confirms layout first (wants_boot upto && is_done session.leg.end)
+      upto session.leg session.dev t
+
+-- its last leg was made whole
+abbrev pub AreDone : List Leg → Type 0
+AreDone [] = Unit {0}
+AreDone (leg ∷ legs) = (leg.end ≡ Done) × AreDone legs
