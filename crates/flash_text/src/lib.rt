@@ -4,10 +4,12 @@
 mod boot_text;
 mod image_text;
 mod refusal;
+mod start_text;
 mod table_text;
 #[cfg(test)]
 mod tests;
 mod text;
+mod worker_text;
 
 pub use boot_text::{put_booted, put_boots, put_confirmed, put_rejected};
 pub use image_text::{put_image, put_length};
