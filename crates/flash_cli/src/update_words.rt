@@ -1,7 +1,9 @@
 //! The words of `update`: its names and its options.
 
 ghost use Rattle.std.specs.Prelude.{◌≡◌, ◌≤◌, IfSome, option_map, option_copied};
+ghost use Rattle.crash_images.specs.Cut.{IsAhead};
 ghost use Rattle.flash_cli.specs.Command.{words_of};
+ghost use Rattle.flash_cli.specs.Opening.{AreOptions};
 ghost use Rattle.flash_cli.specs.UpdateWords.{are_both, driver_by, named, options_of, shown_update, step_by, tear_by, update_made, update_of, upto_by, upto_named, value_of};
 
 use crate::command::{Kind, row_of, table};
@@ -33,6 +35,7 @@ impl<'a> Update<'a> {
     /// The update that words are, where they are one.
     pub(crate) fn read(words: &'a [String]) -> Option<Update<'a>>
         ensures exact { option_map shown_update result ≡ update_of (words_of words.now) }
+        ensures sound { IfSome result (λ update. AreOptions update.options) }
     {
         let [word, words @ ..] = words else {
             return None;
@@ -49,6 +52,7 @@ impl<'a> Update<'a> {
     fn made(kind: Kind, names: &'a [String], options: &[String]) -> Option<Update<'a>>
         ensures exact { option_map shown_update result
             ≡ update_made kind (words_of names.now) (words_of options.now) }
+        ensures sound { IfSome result (λ update. AreOptions update.options) }
     {
         match kind {
             Kind::Update => {
@@ -61,7 +65,9 @@ impl<'a> Update<'a> {
 
     /// The update of these names with these options.
     fn named(names: &'a [String], options: Options) -> Option<Update<'a>>
+        requires sound { AreOptions options }
         ensures exact { option_map shown_update result ≡ named (words_of names.now) options }
+        ensures sound { IfSome result (λ update. AreOptions update.options) }
     {
         match names {
             [flash, image, script, out] => Some(Update {
@@ -81,6 +87,7 @@ impl Options {
     #[tactic(auto, unfolding(crate::specs::UpdateWords::options_of))]
     fn read(words: &[String]) -> Option<Options>
         ensures exact { result ≡ options_of (words_of words.now) }
+        ensures sound { IfSome result AreOptions }
     {
         let driver = driver_by(value_of("--driver", words))?;
         let cut = step_by(value_of("--cut", words))?;
@@ -134,6 +141,7 @@ fn driver_by(value: Option<&str>) -> Option<u8>
 /// The number of a step, from 1, which may be left out.
 fn step_by(value: Option<&str>) -> Option<Option<u64>>
     ensures exact { result ≡ step_by (option_copied value) }
+    ensures some { IfSome result (λ step. IsAhead step 0) }
 {
     match value {
         None => Some(None),

@@ -5,3 +5,4 @@ pub mod StartText
 pub mod Text
 pub mod BootText
 pub mod WorkerText
+pub mod UpdateText

@@ -9,7 +9,7 @@ use Rattle.boot_select.specs.declared.settling.Unsettled.TheVariants.{Waiting, N
 use Rattle.flash_text.specs.Names.{app_text, state_text}
 
 -- what is wrong with a line of a script, in a word
-abbrev pub script_why_text : ScriptWhy → List ℕ
+unfoldable pub script_why_text : ScriptWhy → List ℕ
 script_why_text why.Word = codes "word"
 script_why_text why.Count = codes "count"
 script_why_text why.Space = codes "space"
@@ -20,29 +20,42 @@ script_why_text why.Length = codes "length"
 script_why_text why.TooMany = codes "toomany"
 script_why_text why.TooMuch = codes "toomuch"
 
+-- words and a number
+unfoldable pub number_behind : List ℕ → ℕ → List ℕ
+number_behind text number = text ++ decimal number
+
 -- what is wrong with the line of this number
 unfoldable pub script_text : ℕ → ScriptWhy → List ℕ
-script_text line reason = codes "script line " ++ decimal line ++ codes " " ++ script_why_text reason
+script_text line reason =
+    number_behind (codes "script line ") line ++ codes " " ++ script_why_text reason
 
 -- that an entry waits, with its state
 unfoldable pub waiting_text : ℕ → ℕ → List ℕ
-waiting_text entry state = codes "not settled entry " ++ decimal entry ++ codes " state " ++ state_text state
+waiting_text entry state = number_behind (codes "entry ") entry ++ codes " state " ++ state_text state
+
+-- words and an application
+unfoldable pub app_behind : List ℕ → App → List ℕ
+app_behind text app = text ++ app_text app
 
 -- that another application is started than the one that is named
 unfoldable pub fallback_text : App → App → List ℕ
 fallback_text named started =
-    codes "not settled named " ++ app_text named ++ codes " started " ++ app_text started
+    app_behind (codes "named ") named ++ app_behind (codes " started ") started
+
+-- why a flash isn't settled, without the words in front
+unfoldable pub unsettled_why_text : Unsettled → List ℕ
+unsettled_why_text (Waiting entry state) = waiting_text entry state
+unsettled_why_text NoApp = codes "no application"
+unsettled_why_text (Fallback named started) = fallback_text named started
 
 -- why a flash isn't settled
 unfoldable pub unsettled_text : Unsettled → List ℕ
-unsettled_text (Waiting entry state) = waiting_text entry state
-unsettled_text NoApp = codes "not settled no application"
-unsettled_text (Fallback named started) = fallback_text named started
+unsettled_text reason = codes "not settled " ++ unsettled_why_text reason
 
 -- that the only slot is the one that runs
 unfoldable pub conflict_text : ℕ → List ℕ
-conflict_text slot = codes "conflict " ++ app_text (Ota slot)
+conflict_text slot = app_behind (codes "conflict ") (Ota slot)
 
 -- that a slot may not be written, with its flags
 unfoldable pub slot_flags_text : ℕ → ℕ → List ℕ
-slot_flags_text slot flags = codes "slot flags " ++ app_text (Ota slot) ++ codes " " ++ decimal flags
+slot_flags_text slot flags = app_behind (codes "slot flags ") (Ota slot) ++ codes " " ++ decimal flags

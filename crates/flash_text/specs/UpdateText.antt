@@ -6,8 +6,7 @@ use Rattle.bus_hub.specs.Room.{Kept}
 use Rattle.power_cut.specs.declared.legs.Leg.{Leg}
 use Rattle.power_cut.specs.declared.legs.LegEnd.{LegEnd}
 use Rattle.power_cut.specs.declared.legs.LegEnd.TheVariants.{Done, Device, Cut, FirstByte, Empty, Bad}
-use Rattle.power_cut.specs.declared.trial.Trial.{Trial}
-use Rattle.boot_run.specs.declared.booted.Booted.{Booted}
+use Rattle.power_cut.specs.declared.outcome.Trial.{Trial}
 use Rattle.flash_text.specs.TableText.{hex_number}
 use Rattle.flash_text.specs.ImageText.{bad_image_text}
 use Rattle.flash_text.specs.BootText.{boots_line, steps_line}
@@ -47,26 +46,26 @@ abbrev pub lines_in : ℕ → Option Kept → List ℕ
 lines_in core None = []
 lines_in core (Some journal) = journal_lines core journal
 
--- the lines of a leg of two cores, of which this one is told
-unfoldable pub core_leg : List ℕ → ℕ → Option Kept → Leg → List ℕ
-core_leg name core journal leg = phase_line name ++ lines_in core journal ++ leg_lines leg
+-- the lines of a leg with these of a core
+unfoldable pub leg_text : List ℕ → List ℕ → Leg → List ℕ
+leg_text name lines leg = phase_line name ++ lines ++ leg_lines leg
 
 -- the lines of the confirmation, where there is one
 abbrev pub confirm_lines : ℕ → Option Kept → List Leg → List ℕ
 confirm_lines core journal [] = []
-confirm_lines core journal (leg ∷ legs) = core_leg (codes "confirm") core journal leg
+confirm_lines core journal (leg ∷ legs) = leg_text (codes "confirm") (lines_in core journal) leg
 
 -- the lines of the boot and of what follows, where there is one
 abbrev pub boot_lines : ℕ → Option Kept → List Leg → List ℕ
 boot_lines core journal [] = []
 boot_lines core journal (leg ∷ legs) =
-    core_leg (codes "boot") core None leg ++ confirm_lines core journal legs
+    leg_text (codes "boot") [] leg ++ confirm_lines core journal legs
 
 -- the lines of all legs: the session, the boot, the confirmation
 abbrev pub legs_lines : ℕ → Kept → Option Kept → List Leg → List ℕ
 legs_lines core session confirm [] = []
 legs_lines core session confirm (leg ∷ legs) =
-    core_leg (codes "session") core (Some session) leg ++ boot_lines core confirm legs
+    leg_text (codes "session") (journal_lines core session) leg ++ boot_lines core confirm legs
 
 -- the lines of an update that this core drove: its legs, and what boots of the flash that is left
 unfoldable pub update_text : ℕ → Trial → List ℕ

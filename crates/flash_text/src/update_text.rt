@@ -1,8 +1,8 @@
 //! The lines of an update: its legs, what the core beside the driver did in them, how each ended,
 //! and what boots.
 
-ghost use Rattle.std.specs.Prelude.{◌≡◌, ◌≤◌, ◌++◌, Some, OnOk, option_copied};
-ghost use Rattle.flash_text.specs.UpdateText.{IsReadable, bad_end_text, boot_lines, confirm_lines, core_leg, end_line, end_text, leg_lines, legs_lines, lines_in, phase_line, update_text};
+ghost use Rattle.std.specs.Prelude.{◌≡◌, ◌≤◌, ◌++◌, [], Some, OnOk, codes};
+ghost use Rattle.flash_text.specs.UpdateText.{IsReadable, bad_end_text, boot_lines, confirm_lines, end_line, end_text, journal_lines, leg_lines, leg_text, legs_lines, lines_in, phase_line, update_text};
 
 use crate::boot_text::{put_boots, put_steps};
 use crate::image_text::{put_bad_image, put_byte};
@@ -26,7 +26,7 @@ pub fn put_update(out: &mut Vec<u8>, driver: u8, trial: &Trial) -> Result<(), Me
         out,
         1 - driver,
         &trial.session,
-        trial.confirm.as_ref(),
+        &trial.confirm,
         trial.legs.as_slice(),
     )?;
     put_boots(out, trial.after.app, u64::from(trial.after.info.length))
@@ -37,74 +37,94 @@ fn put_legs(
     out: &mut Vec<u8>,
     core: u8,
     session: &Journal,
-    confirm: Option<&Journal>,
+    confirm: &Option<Journal>,
     legs: &[Leg],
 ) -> Result<(), Memory>
     requires session { IsReadable (Some session.now) }
-    requires confirm { IsReadable (option_copied confirm) }
-    ensures ok { OnOk result (out.new.items ≡ out.old.items
-        ++ legs_lines core session.now (option_copied confirm) legs.now) }
+    requires confirm { IsReadable confirm.now }
+    ensures ok { OnOk result (out.new.items
+        ≡ out.old.items ++ legs_lines core session.now confirm.now legs.now) }
 {
     match legs {
         [] => Ok(()),
         [leg, more @ ..] => {
-            put_core_leg(out, "session", core, Some(session), leg)?;
+            put_session(out, core, session, leg)?;
             put_boot(out, core, confirm, more)
         }
     }
+}
+
+/// Appends the lines of the session.
+#[tactic(auto, unfolding(crate::specs::UpdateText::leg_text))]
+fn put_session(out: &mut Vec<u8>, core: u8, journal: &Journal, leg: &Leg) -> Result<(), Memory>
+    requires journal { IsReadable (Some journal.now) }
+    ensures ok { OnOk result (out.new.items ≡ out.old.items
+        ++ leg_text (codes "session") (journal_lines core journal.now) leg.now) }
+{
+    put_phase(out, "session")?;
+    put_core(out, core, journal)?;
+    put_leg(out, leg)
 }
 
 /// Appends the lines of the boot and of what follows, where there is one.
 fn put_boot(
     out: &mut Vec<u8>,
     core: u8,
-    confirm: Option<&Journal>,
+    confirm: &Option<Journal>,
     legs: &[Leg],
 ) -> Result<(), Memory>
-    requires confirm { IsReadable (option_copied confirm) }
-    ensures ok { OnOk result (out.new.items ≡ out.old.items
-        ++ boot_lines core (option_copied confirm) legs.now) }
+    requires confirm { IsReadable confirm.now }
+    ensures ok { OnOk result (out.new.items
+        ≡ out.old.items ++ boot_lines core confirm.now legs.now) }
 {
     match legs {
         [] => Ok(()),
         [leg, more @ ..] => {
-            put_core_leg(out, "boot", core, None, leg)?;
+            put_plain_leg(out, "boot", leg)?;
             put_confirm(out, core, confirm, more)
         }
     }
+}
+
+/// Appends the lines of a leg of one core.
+#[tactic(auto, unfolding(crate::specs::UpdateText::leg_text))]
+fn put_plain_leg(out: &mut Vec<u8>, name: &str, leg: &Leg) -> Result<(), Memory>
+    ensures ok { OnOk result (out.new.items ≡ out.old.items ++ leg_text name.now [] leg.now) }
+{
+    put_phase(out, name)?;
+    put_leg(out, leg)
 }
 
 /// Appends the lines of the confirmation, where there is one.
 fn put_confirm(
     out: &mut Vec<u8>,
     core: u8,
-    journal: Option<&Journal>,
+    journal: &Option<Journal>,
     legs: &[Leg],
 ) -> Result<(), Memory>
-    requires journal { IsReadable (option_copied journal) }
-    ensures ok { OnOk result (out.new.items ≡ out.old.items
-        ++ confirm_lines core (option_copied journal) legs.now) }
+    requires journal { IsReadable journal.now }
+    ensures ok { OnOk result (out.new.items
+        ≡ out.old.items ++ confirm_lines core journal.now legs.now) }
 {
     match legs {
         [] => Ok(()),
-        [leg, ..] => put_core_leg(out, "confirm", core, journal, leg),
+        [leg, ..] => put_confirm_leg(out, core, journal, leg),
     }
 }
 
-/// Appends the lines of a leg, with what this core did in it.
-#[tactic(auto, unfolding(crate::specs::UpdateText::core_leg))]
-fn put_core_leg(
+/// Appends the lines of the confirmation.
+#[tactic(auto, unfolding(crate::specs::UpdateText::leg_text))]
+fn put_confirm_leg(
     out: &mut Vec<u8>,
-    name: &str,
     core: u8,
-    journal: Option<&Journal>,
+    journal: &Option<Journal>,
     leg: &Leg,
 ) -> Result<(), Memory>
-    requires journal { IsReadable (option_copied journal) }
+    requires journal { IsReadable journal.now }
     ensures ok { OnOk result (out.new.items ≡ out.old.items
-        ++ core_leg name.now core (option_copied journal) leg.now) }
+        ++ leg_text (codes "confirm") (lines_in core journal.now) leg.now) }
 {
-    put_phase(out, name)?;
+    put_phase(out, "confirm")?;
     put_lines(out, core, journal)?;
     put_leg(out, leg)
 }
@@ -120,10 +140,9 @@ fn put_phase(out: &mut Vec<u8>, name: &str) -> Result<(), Memory>
 }
 
 /// Appends the lines of a core, where there is a journal.
-fn put_lines(out: &mut Vec<u8>, core: u8, journal: Option<&Journal>) -> Result<(), Memory>
-    requires journal { IsReadable (option_copied journal) }
-    ensures ok { OnOk result (out.new.items
-        ≡ out.old.items ++ lines_in core (option_copied journal)) }
+fn put_lines(out: &mut Vec<u8>, core: u8, journal: &Option<Journal>) -> Result<(), Memory>
+    requires journal { IsReadable journal.now }
+    ensures ok { OnOk result (out.new.items ≡ out.old.items ++ lines_in core journal.now) }
 {
     match journal {
         None => Ok(()),
