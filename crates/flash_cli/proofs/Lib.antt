@@ -15,3 +15,4 @@ pub mod ReadableLemmas
 pub mod EndLemmas
 pub mod ServedLemmas
 pub mod OpeningLemmas
+pub mod TrialLemmas

@@ -1,5 +1,6 @@
 -- The legs of the program's updates: which shares the driver and the core beside it may have.
-use Rattle.std.specs.Prelude.{◌≡◌, ℕ, Bool, List, Result}
+use Rattle.std.specs.Borrow.{Bor}
+use Rattle.std.specs.Prelude.{ℕ, List, Result}
 use Rattle.nor_device.specs.declared.nor.NorFault.{NorFault}
 use Rattle.nor_device.specs.Ram.{Ram}
 use Rattle.crash_images.specs.Cut.{CutDevice}
@@ -27,6 +28,6 @@ Writes o driver aim dev ran =
     ran
 
 -- a confirmation of it
-abbrev pub Confirms : Opening → ℕ → CutDevice Ram → Booted → Rewrite → Ran → Type 0
+abbrev pub Confirms : Opening → ℕ → CutDevice Ram → Bor Booted → Bor Rewrite → Ran → Type 0
 Confirms o driver dev at write ran =
-    IsConfirmLeg AnyShare AnyShare driver AnyPages o.layout (open_addresses o.rows) write dev ran
+    IsConfirmLeg AnyShare AnyShare driver AnyPages o.layout (open_addresses o.rows) write.now dev ran

@@ -48,9 +48,13 @@ unsettled_why_text (Waiting entry state) = waiting_text entry state
 unsettled_why_text NoApp = codes "no application"
 unsettled_why_text (Fallback named started) = fallback_text named started
 
+-- words and why a flash isn't settled
+unfoldable pub unsettled_behind : List ℕ → Unsettled → List ℕ
+unsettled_behind text reason = text ++ unsettled_why_text reason
+
 -- why a flash isn't settled
-unfoldable pub unsettled_text : Unsettled → List ℕ
-unsettled_text reason = codes "not settled " ++ unsettled_why_text reason
+abbrev pub unsettled_text : Unsettled → List ℕ
+unsettled_text reason = unsettled_behind (codes "not settled ") reason
 
 -- that the only slot is the one that runs
 unfoldable pub conflict_text : ℕ → List ℕ

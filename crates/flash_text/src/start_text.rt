@@ -1,7 +1,7 @@
 //! Why an update doesn't begin, in words: a line of its script, and what stands in its flash.
 
 ghost use Rattle.std.specs.Prelude.{◌≡◌, ◌++◌, OnOk};
-ghost use Rattle.flash_text.specs.StartText.{app_behind, conflict_text, fallback_text, number_behind, script_text, script_why_text, slot_flags_text, unsettled_text, unsettled_why_text, waiting_text};
+ghost use Rattle.flash_text.specs.StartText.{app_behind, conflict_text, fallback_text, number_behind, script_text, script_why_text, slot_flags_text, unsettled_behind, unsettled_text, unsettled_why_text, waiting_text};
 
 use crate::text::{put_app, put_state, put_text};
 use boot_select::Unsettled;
@@ -47,11 +47,18 @@ fn put_number_behind(out: &mut Vec<u8>, text: &str, number: u64) -> Result<(), M
 }
 
 /// Appends why a flash isn't settled.
-#[tactic(auto, unfolding(crate::specs::StartText::unsettled_text))]
 pub(crate) fn put_unsettled(out: &mut Vec<u8>, why: Unsettled) -> Result<(), Memory>
     ensures ok { OnOk result (out.new.items ≡ out.old.items ++ unsettled_text why) }
 {
-    put_text(out, "not settled ")?;
+    put_unsettled_behind(out, "not settled ", why)
+}
+
+/// Appends words and why a flash isn't settled.
+#[tactic(auto, unfolding(crate::specs::StartText::unsettled_behind))]
+fn put_unsettled_behind(out: &mut Vec<u8>, text: &str, why: Unsettled) -> Result<(), Memory>
+    ensures ok { OnOk result (out.new.items ≡ out.old.items ++ unsettled_behind text.now why) }
+{
+    put_text(out, text)?;
     put_unsettled_why(out, why)
 }
 
