@@ -17,9 +17,26 @@ use Rattle.flash_cli.specs.declared.status.Status.{Status}
 use Rattle.flash_cli.specs.declared.status.Status.TheVariants.{Done, Usage, Refused, StoreFault, DeviceFault, PowerCut, Memory, SinkFault}
 use Rattle.flash_cli.specs.Answer.{Outcome, TellsPuts, refused_outcome}
 use Rattle.flash_cli.specs.UpdateWords.{Update}
-use Rattle.flash_cli.specs.Updating.{IsMade, IsUpdated, IsUpdateEnd, UpdateEnds, UpdateEndsWhole, UpdateIsUnmade, last_end, outcome_of_trial, status_by}
+use Rattle.flash_cli.specs.Reading.{TellsAnswer}
+use Rattle.flash_cli.specs.Updating.{IsMade, IsUpdated, IsUpdateEnd, UpdateEnds, UpdateOf, UpdateEndsWhole, UpdateIsUnmade, last_end, outcome_of_trial, status_by}
 use Rattle.flash_cli.specs.Served.{EndsBy, IsPushed, IsRefusal, Refuses}
 use Rattle.flash_cli.proofs.PutLemmas.{puts_none}
+
+-- what an update of the files that were read came to, the update of the words came to
+pub update_came : (told : Option Files) (u : Update) (first now : ℕ) (flash image text : List ℕ)
+    (result : Result Trial CommandError) → TellsAnswer told u.flash (Some flash)
+    → TellsAnswer told u.image (Some image) → TellsAnswer told u.script (Some text)
+    → UpdateOf flash image text u.options result → IsUpdateEnd told u first now result
+update_came told u first now flash image text (Ok t) a b c is = record {
+  o = is.0;
+  comes = (Some flash, (a, (Some image, (b, (Some text, (c, ap Ok (sym is.1)))))));
+  is = is.2;
+}
+update_came told u first now flash image text (Err (RefusedBy why)) a b c is =
+    (Some flash, (a, (Some image, (b, (Some text, (c, ap Ok (sym is)))))))
+update_came told u first now flash image text (Err (Absent file name)) a b c is = absurd is
+update_came told u first now flash image text (Err (Failed Store)) a b c is = absurd is
+update_came told u first now flash image text (Err (Failed OutOfMemory)) a b c is = tt
 
 -- an update that was made comes to the outcome of its trial
 made : (told : Option Files) (u : Update) (t : Trial) → IsMade told u t
@@ -49,14 +66,14 @@ pub told_ends : (told : Option Files) (u : Update) (t : Trial) (status : Status)
     (put : Option Files) (before after : Option (List ℕ)) → IsMade told u t
     → EndsBy u t status told put before after
     → UpdateEnds told u status (Some t) put before after
-told_ends told u t status put before after is (inl (inl fault, (unput, silent))) =
+told_ends told u t status put before after is (inl (inl fault, unput, silent)) =
     rw fault (inr (record {
       outcome = outcome_of_trial u t;
       comes = made told u t is;
       puts = (0, rw unput (puts_none told));
       silent = silent;
     }))
-told_ends told u t status put before after is (inl (inr none, (unput, silent))) =
+told_ends told u t status put before after is (inl (inr none, unput, silent)) =
     rw none (inr (inl (record {
       outcome = outcome_of_trial u t;
       comes = made told u t is;

@@ -1,5 +1,5 @@
 -- What an update begins with, or why it may not begin.
-use Rattle.std.specs.Prelude.{◌≡◌, ◌≤◌, ℕ, List, length, take, drop, Result, Ok, Err, if◌then◌else◌}
+use Rattle.std.specs.Prelude.{◌≡◌, ◌≤◌, ◌%◌, ◌==◌, not, nat_lt, ℕ, List, length, take, drop, slice_get, Option, Some, None, Result, Ok, Err, if◌then◌else◌}
 use Rattle.nor_device.specs.FlashSize.{is_flash_size}
 use Rattle.nor_device.specs.Ram.{Ram}
 use Rattle.crash_images.specs.Cut.{CutDevice, IsAhead, NotBoth}
@@ -8,8 +8,16 @@ use Rattle.partition_table.specs.declared.bad.TableBad.{TableBad}
 use Rattle.partition_table.specs.declared.row.Row.{Row}
 use Rattle.partition_table.specs.Layout.{Places, layout_in, layout_of}
 use Rattle.partition_table.specs.Table.{table_of}
+use Rattle.otadata.specs.declared.entry.Entry.{Entry}
 use Rattle.otadata.specs.declared.next.NextEntry.{NextEntry}
+use Rattle.otadata.specs.declared.next.SeqSpent.{SeqSpent as NoSequence}
+use Rattle.otadata.specs.Next.{next_of}
+use Rattle.partition_table.specs.declared.app.App.{App}
+use Rattle.partition_table.specs.declared.app.App.TheVariants.{Ota}
+use Rattle.boot_select.specs.declared.settling.Unsettled.{Unsettled}
 use Rattle.boot_select.specs.Boots.{entries_in, images_in}
+use Rattle.boot_select.specs.Settled.{is_same}
+use Rattle.boot_select.specs.Target.{target_of}
 use Rattle.image_verify.specs.Held.{held}
 use Rattle.core_script.specs.declared.action.Action.{Action}
 use Rattle.core_script.specs.declared.refusal.ScriptNo.{ScriptNo}
@@ -19,9 +27,7 @@ use Rattle.core_script.specs.ScriptText.{script_of_text}
 use Rattle.boot_run.specs.declared.aims.Aim.{Aim}
 use Rattle.boot_run.specs.declared.aims.AimNo.{AimNo}
 use Rattle.boot_run.specs.declared.aims.AimNo.TheVariants as no
-use Rattle.boot_run.specs.declared.aims.Unfit.{Unfit}
-use Rattle.boot_run.specs.declared.aims.Unfit.TheVariants as unfit
-use Rattle.boot_run.specs.Aim.{IsAimed, aim_by, running_of}
+use Rattle.boot_run.specs.Aim.{IsAimed, running_of}
 use Rattle.flash_text.specs.declared.refusal.Refusal.{Refusal}
 use Rattle.flash_text.specs.declared.refusal.Refusal.TheVariants.{FlashSize, Table, Script, NotSettled, Conflict, SlotFlags, SeqSpent, TooLarge}
 use Rattle.flash_cli.specs.declared.error.CommandError.{CommandError}
@@ -68,19 +74,6 @@ rows_in flash =
     then rows_or_refusal (table_of (take 0xC00 (drop 0x8000 flash)) (length flash))
     else Err (FlashSize (length flash))
 
--- why an update may not begin
-abbrev pub aim_refusal : Unfit → Refusal
-aim_refusal (unfit.NotSettled reason) = NotSettled reason
-aim_refusal (unfit.Conflict slot) = Conflict slot
-aim_refusal (unfit.SlotFlags slot flags) = SlotFlags slot flags
-aim_refusal (unfit.SeqSpent seq) = SeqSpent seq
-aim_refusal (unfit.TooLarge need limit) = TooLarge need limit
-
--- the next entry of an update, or why it may not begin
-abbrev pub aim_or_refusal : Result NextEntry Unfit → Result NextEntry Refusal
-aim_or_refusal (Ok next) = Ok next
-aim_or_refusal (Err reason) = Err (aim_refusal reason)
-
 -- a look for what an update would write that no device refused
 abbrev pub IsLook : AimNo → Type 0
 IsLook (no.NotSettled reason) = Unit {0}
@@ -106,16 +99,42 @@ abbrev pub with_need : ℕ → Refusal → Refusal
 with_need need (TooLarge other limit) = TooLarge need limit
 with_need need why = why
 
--- the next entry of an update of so many bytes on a flash with this layout, or why it may not begin
-unfoldable pub aim_in : List ℕ → Places → ℕ → Result NextEntry Unfit
-aim_in flash layout long =
-    aim_by layout (entries_in layout flash 0) (entries_in layout flash 1) long
+-- the next entry for a slot, for an image of so many bytes: where there is one and the image fits
+abbrev pub next_for : ℕ → Row → Result NextEntry NoSequence → Result NextEntry Refusal
+next_for long row (Err spent) = Err (SeqSpent spent.seq)
+next_for long row (Ok next) =
+    if nat_lt row.size long then Err (TooLarge long row.size) else Ok next
+
+-- the slot has a partition, which is neither encrypted nor readonly, and so on
+abbrev pub next_in_slot : ℕ → ℕ → Option Row → Result NextEntry NoSequence → Result NextEntry Refusal
+next_in_slot slot long None next = Err (Conflict slot)
+next_in_slot slot long (Some row) next =
+    if not (row.flags % 4 == 0) then Err (SlotFlags slot row.flags) else next_for long row next
+
+-- the slot isn't the one that runs, and so on
+abbrev pub next_beside : Places → Entry → Entry → App → ℕ → ℕ → Result NextEntry Refusal
+next_beside layout e0 e1 running long slot =
+    if is_same running (Ota slot) then Err (Conflict slot)
+    else next_in_slot slot long (slice_get layout.slots slot)
+    (next_of e0 e1 slot (length layout.slots))
+
+-- an application runs, and so on
+abbrev pub next_by : Places → Entry → Entry → ℕ → Result App Unsettled → Result NextEntry Refusal
+next_by layout e0 e1 long (Err reason) = Err (NotSettled reason)
+next_by layout e0 e1 long (Ok running) =
+    next_beside layout e0 e1 running long (target_of layout e0 e1 running)
+
+-- the entry that an update of so many bytes writes on a flash with this layout, or the first reason
+-- why it may not begin: what runs, the slot, its flags, the sequence, its size
+unfoldable pub next_in : List ℕ → Places → ℕ → Result NextEntry Refusal
+next_in flash layout long =
+    next_by layout (entries_in layout flash 0) (entries_in layout flash 1) long
     (running_of layout (images_in held layout flash) (entries_in layout flash))
 
 -- what an update with these parts begins with, where it may begin
 abbrev pub opening_by : List ℕ → List ℕ → List Action → List Row → Places → Result Opening Refusal
 opening_by flash image script rows layout =
-    on_ok (aim_or_refusal (aim_in flash layout (length image))) (λ next. Ok (record {
+    on_ok (next_in flash layout (length image)) (λ next. Ok (record {
       flash = flash;
       image = image;
       script = script;
@@ -123,15 +142,18 @@ opening_by flash image script rows layout =
       layout = layout;
     }))
 
--- what an update of a flash by an image and the text of a script begins with, or the first reason
--- why it may not begin: the script, the size of the flash, its table, its layout, what runs and what
--- is written
-unfoldable pub opening_of : List ℕ → List ℕ → List ℕ → Result Opening Refusal
-opening_of flash image text =
-    on_ok (script_or_refusal (script_of_text text)) (λ script.
+-- what an update of a flash by an image and a script begins with, or the first reason why it may not
+-- begin: the size of the flash, its table, its layout, what runs and what is written
+unfoldable pub opening_from : List ℕ → List ℕ → List Action → Result Opening Refusal
+opening_from flash image script =
     on_ok (rows_in flash) (λ rows.
     on_ok (layout_or_refusal (layout_of rows)) (λ layout.
-    opening_by flash image script rows layout)))
+    opening_by flash image script rows layout))
+
+-- the same by the text of a script, of which that comes first
+abbrev pub opening_of : List ℕ → List ℕ → List ℕ → Result Opening Refusal
+opening_of flash image text =
+    on_ok (script_or_refusal (script_of_text text)) (opening_from flash image)
 
 -- the options are such as words can be: the driver is a core, at most one step is to end badly, and
 -- steps are numbered from 1
@@ -170,6 +192,24 @@ pub record IsBegun (image : List ℕ) (options : Options) (o : CodeOpening) : Ty
   pub laid : layout_in o.device.inner.bytes ≡ Ok o.layout
   pub aims : AimsIn o.device.inner.bytes o.layout (length image) o.aim
   pub fresh : IsFresh options o.device.inner.bytes o.device
+
+-- an update of this flash, image and script begins so
+pub record BeginsSo (flash image : List ℕ) (script : List Action) (options : Options) (o : CodeOpening)
+    : Type 0 where
+  pub given : opening_from flash image script ≡ Ok (opening_with image o)
+  pub begun : IsBegun image options o
+
+-- it begins so, or it may not begin for this reason
+abbrev pub Begins : List ℕ → List ℕ → List Action → Options → Result CodeOpening Refusal → Type 0
+Begins flash image script options (Ok o) = BeginsSo flash image script options o
+Begins flash image script options (Err reason) = opening_from flash image script ≡ Err reason
+
+-- the same, as an error of the command
+abbrev pub OpensBy : List ℕ → List ℕ → List Action → Options → Result CodeOpening CommandError → Type 0
+OpensBy flash image script options (Ok o) = BeginsSo flash image script options o
+OpensBy flash image script options (Err (Refused reason)) = opening_from flash image script ≡ Err reason
+OpensBy flash image script options (Err (Absent file name)) = ⊥
+OpensBy flash image script options (Err (Failed failure)) = ⊥
 
 -- so it is with an update of these files
 pub record IsOpened (flash image text : List ℕ) (options : Options) (o : CodeOpening) : Type 0 where

@@ -1,6 +1,6 @@
 //! What an update begins with, or why it may not begin.
 
-ghost use Rattle.std.specs.Prelude.{◌≡◌, ◌<◌, ◌^◌, None, Err, IfOk, IfErr, IfSome, OnOk, length};
+ghost use Rattle.std.specs.Prelude.{◌≡◌, ◌<◌, ◌^◌, None, Err, IfOk, IfErr, IfSome, IsSome, OnOk, length};
 ghost use Rattle.nor_device.specs.FlashSize.{IsFlashSize};
 ghost use Rattle.nor_device.specs.Nor.{IsIdleAsBefore};
 ghost use Rattle.partition_table.specs.Layout.{IsPlaced, layout_of};
@@ -8,7 +8,7 @@ ghost use Rattle.partition_table.specs.Rules.{FitsFlash};
 ghost use Rattle.core_script.specs.ScriptText.{script_of_text};
 ghost use Rattle.flash_cli.specs.Device.{IsSure};
 ghost use Rattle.flash_cli.specs.Laid.{layout_or_refusal};
-ghost use Rattle.flash_cli.specs.Opening.{AimsIn, AreOptions, IsAimRefusal, IsFresh, IsLook, Opens, aim_in, aim_or_refusal, rows_in, script_or_refusal, with_need};
+ghost use Rattle.flash_cli.specs.Opening.{AimsIn, AreOptions, Begins, IsAimRefusal, IsFresh, IsLook, Opens, OpensBy, next_in, rows_in, script_or_refusal, with_need};
 ghost use Rattle.flash_cli.specs.Report.{IsFound};
 
 use crate::device::{POLLS, bytes_of, device_of};
@@ -45,17 +45,57 @@ pub(crate) fn opened(
     requires options { AreOptions options.now }
     ensures exact { Opens flash.items image.now text.now options.now result }
 {
-    let script = script_of(alloc, text)?;
-    let table = table_in(&flash)?;
-    let layout = layout_by(&table, flash.len())?;
-    let (aim, flash) = aim_at(flash, &layout, image.len())?;
-    Ok(Opening {
-        device: chosen_device(flash, options),
-        script,
-        table,
-        layout,
-        aim,
-    })
+    match script_of(alloc, text) {
+        Ok(script) => opened_by(flash, image, script, options),
+        Err(error) => Err(error),
+    }
+}
+
+/// The same by a script.
+fn opened_by(
+    flash: Vec<u8>,
+    image: &[u8],
+    script: Script,
+    options: &Options,
+) -> Result<Opening, CommandError>
+    requires options { AreOptions options.now }
+    ensures exact { OpensBy flash.items image.now script options.now result }
+{
+    match begin(flash, image, script, options) {
+        Ok(opening) => Ok(opening),
+        Err(why) => Err(CommandError::Refused(why)),
+    }
+}
+
+/// What an update of a flash by an image and a script begins with, or the first reason why it may
+/// not begin: the size of the flash, its table, its layout, what runs and what is written.
+fn begin(
+    flash: Vec<u8>,
+    image: &[u8],
+    script: Script,
+    options: &Options,
+) -> Result<Opening, Refusal>
+    requires options { AreOptions options.now }
+    ensures exact { Begins flash.items image.now script options.now result }
+{
+    let table = match table_in(&flash) {
+        Ok(table) => table,
+        Err(why) => return Err(why),
+    };
+    let layout = match layout_by(&table, flash.len()) {
+        Ok(layout) => layout,
+        Err(why) => return Err(why),
+    };
+    match aim_at(flash, &layout, image.len()) {
+        Ok((aim, flash)) => Ok(Opening {
+            device: chosen_device(flash, options),
+            script,
+            table,
+            layout,
+            aim,
+        }),
+        Err(why) => Err(why),
+    }
 }
 
 /// The actions of a script.
@@ -129,7 +169,7 @@ fn aim_at(flash: Vec<u8>, layout: &Layout, long: usize) -> Result<(Aim, Vec<u8>)
     ensures aims { IfOk result (λ found. AimsIn flash.items layout.now long found.0) }
     ensures same { IfOk result (λ found. found.1.items ≡ flash.items) }
     ensures err { IfErr result
-        (λ why. aim_or_refusal (aim_in flash.items layout.now long) ≡ Err why) }
+        (λ why. next_in flash.items layout.now long ≡ Err why) }
 {
     let mut device = device_of(flash);
     match aim_long(&mut device, layout, long) {
@@ -145,10 +185,11 @@ fn aim_long<D: Nor>(device: &mut D, layout: &Layout, long: usize) -> Result<Aim,
     requires placed { IsPlaced layout.now (D.size device.old) }
     requires small { D.size device.old < 2 ^ 32 }
     requires sure { IsSure D.may_end D.may_refuse (D.setting device.old) }
+    requires told { IsSome (D.bytes device.old) }
     ensures aims { IfOk result (λ aim. IfSome (D.bytes device.old)
         (λ flash. AimsIn flash layout.now long aim)) }
     ensures err { IfErr result (λ why. IfSome (D.bytes device.old)
-        (λ flash. aim_or_refusal (aim_in flash layout.now long) ≡ Err why)) }
+        (λ flash. next_in flash layout.now long ≡ Err why)) }
     ensures same { IsIdleAsBefore D.bytes D.running device.old device.new }
 {
     if long <= u32::MAX as usize {
@@ -169,7 +210,7 @@ fn aim_short<D: Nor>(device: &mut D, layout: &Layout, long: u32) -> Result<Aim, 
     ensures aims { IfOk result (λ aim. IfSome (D.bytes device.old)
         (λ flash. AimsIn flash layout.now long aim)) }
     ensures err { IfErr result (λ why. IfSome (D.bytes device.old)
-        (λ flash. aim_or_refusal (aim_in flash layout.now long) ≡ Err why)) }
+        (λ flash. next_in flash layout.now long ≡ Err why)) }
     ensures same { IsIdleAsBefore D.bytes D.running device.old device.new }
 {
     match aim(device, layout, long) {

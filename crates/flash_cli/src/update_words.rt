@@ -126,7 +126,7 @@ fn value_of<'a>(option: &str, words: &'a [String]) -> Option<&'a str>
 
 /// The core that writes: 0 or 1, and 0 where nothing is said.
 fn driver_by(value: Option<&str>) -> Option<u8>
-    ensures exact { result ≡ driver_by (option_copied value) }
+    ensures exact { result ≡ driver_by (option_copied value.entry) }
     ensures most { IfSome result (λ driver. driver ≤ 1) }
 {
     match value {
@@ -140,7 +140,7 @@ fn driver_by(value: Option<&str>) -> Option<u8>
 
 /// The number of a step, from 1, which may be left out.
 fn step_by(value: Option<&str>) -> Option<Option<u64>>
-    ensures exact { result ≡ step_by (option_copied value) }
+    ensures exact { result ≡ step_by (option_copied value.entry) }
     ensures some { IfSome result (λ step. IsAhead step 0) }
 {
     match value {
@@ -160,7 +160,7 @@ fn step_by(value: Option<&str>) -> Option<Option<u64>>
 
 /// The number of the bytes that a broken step leaves, 0 where nothing is said.
 fn tear_by(value: Option<&str>) -> Option<u64>
-    ensures exact { result ≡ tear_by (option_copied value) }
+    ensures exact { result ≡ tear_by (option_copied value.entry) }
 {
     match value {
         None => Some(0),
@@ -170,7 +170,7 @@ fn tear_by(value: Option<&str>) -> Option<u64>
 
 /// How far an update is to go: to its end where nothing is said.
 fn upto_by(value: Option<&str>) -> Option<Upto>
-    ensures exact { result ≡ upto_by (option_copied value) }
+    ensures exact { result ≡ upto_by (option_copied value.entry) }
 {
     match value {
         None => Some(Upto::Confirm),
