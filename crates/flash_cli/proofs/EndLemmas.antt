@@ -1,6 +1,6 @@
 -- How an update ends: in the chosen step, where it was begun; else by its image.
 use mathlib.Core.Logic.{◌⊎◌, inl, inr}
-use Rattle.std.proofs.Common.{◌≡◌, ℕ, ◌+◌, ◌<◌, ◌≤◌, Bool, true, false, List, [], ◌∷◌, Option, Some, None, refl, sym, ap, ◌∙◌, arith}
+use Rattle.std.proofs.Common.{◌≡◌, ℕ, ◌+◌, ◌<◌, ◌≤◌, Bool, true, false, List, [], ◌∷◌, Option, Some, None, refl, sym, ap, ◌∙◌, arith, subst}
 use Rattle.std.specs.Prelude.{◌&&◌, nat_le, nat_lt, if◌then◌else◌}
 use Rattle.std.proofs.lemmas.Bool.Decides.{nat_tests}
 use Rattle.nor_device.specs.Ram.{Ram}
@@ -176,8 +176,10 @@ pub update_ends : (o : Opening) (driver : ℕ) (cut fail : Option ℕ) (whole : 
     (wants_boot upto && is_done session.leg.end) upto session.leg session.dev t
     → last_end t.legs.items ≡ chosen_end cut fail (steps_in t.legs.items) whole
 update_ends o driver cut fail whole upto dev session t one cut_is fail_is fresh ran behind =
+    let first : 0 + session.leg.steps ≡ session.leg.steps = omega arith in
     behind_session o driver cut fail whole _ upto session.leg session.dev t one
     (λ both. done_is session.leg.end (second_true (wants_boot upto) (is_done session.leg.end) both))
+    (subst (λ n. Leads cut fail n whole session.dev session.leg.end) first
     (leads cut fail 0 dev session.dev whole session.leg one
-    (record { cut_is = cut_is; fail_is = fail_is; steps_are = fresh }) ran)
+    (record { cut_is = cut_is; fail_is = fail_is; steps_are = fresh }) ran))
     behind

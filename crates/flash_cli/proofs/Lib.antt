@@ -16,3 +16,4 @@ pub mod EndLemmas
 pub mod ServedLemmas
 pub mod OpeningLemmas
 pub mod TrialLemmas
+pub mod RunLemmas

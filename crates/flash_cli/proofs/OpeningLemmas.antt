@@ -4,7 +4,8 @@ use Rattle.std.specs.Prelude.{◌%◌, ◌==◌, not, nat_lt, if◌then◌else�
 use Rattle.std.proofs.lemmas.Bool.Decides.{nat_tests}
 use Rattle.nor_device.specs.declared.nor.NorFault.{NorFault}
 use Rattle.nor_device.specs.declared.nor.NorFault.TheVariants as faults
-use Rattle.nor_device.specs.FlashSize.{is_flash_size}
+use Rattle.nor_device.specs.FlashSize.{IsFlashSize, is_flash_size}
+use Rattle.duo_run.specs.Legs.{HasTable}
 use Rattle.partition_table.specs.declared.app.App.{App}
 use Rattle.partition_table.specs.declared.app.App.TheVariants.{Ota}
 use Rattle.partition_table.specs.declared.bad.TableBad.{TableBad}
@@ -152,6 +153,17 @@ unfolding rows_in layout_in
 laid_by flash rows layout found laid =
     let read = rows_are _ rows (sized_rows (is_flash_size (length flash)) _ _ rows found) in
     rw read (layout_is (layout_of rows) layout laid)
+
+-- the table of a flash, and the layout by it
+has_table : (flash : List ℕ) (rows : List Row) (layout : Places) → IsFlashSize (length flash)
+    → rows_in flash ≡ Ok rows → layout_or_refusal (layout_of rows) ≡ Ok layout
+    → HasTable rows layout flash
+unfolding rows_in
+has_table flash rows layout size found laid = record {
+  size = size;
+  table = rows_are _ rows (sized_rows (is_flash_size (length flash)) _ _ rows found);
+  layout_is = layout_is (layout_of rows) layout laid;
+}
 
 -- ---- an image that is longer than each slot
 
@@ -398,10 +410,10 @@ aim_refused (Some flash) layout long look refusal is aims =
 
 -- what an update begins with, of its parts
 pub begins_so : (flash image : List ℕ) (options : Options) (o : CodeOpening) (long : ℕ)
-    → Ok o.table ≡ rows_in flash → Ok o.layout ≡ layout_or_refusal (layout_of o.table)
+    → IsFlashSize (length flash) → Ok o.table ≡ rows_in flash → Ok o.layout ≡ layout_or_refusal (layout_of o.table)
     → long ≡ length image → AimsIn flash o.layout long o.aim → IsFresh options flash o.device
     → BeginsSo flash image o.script options o
-begins_so flash image options o long found laid is aims fresh =
+begins_so flash image options o long size found laid is aims fresh =
     let here = fresh.bytes in
     let aimed : AimsIn flash o.layout (length image) o.aim =
         subst (λ n. AimsIn flash o.layout n o.aim) is aims in
@@ -417,6 +429,8 @@ begins_so flash image options o long found laid is aims fresh =
       begun = record {
         laid = subst (λ bytes. layout_in bytes ≡ Ok o.layout) (sym here)
             (laid_by flash o.table o.layout (sym found) (sym laid));
+        table = subst (HasTable o.table o.layout) (sym here)
+            (has_table flash o.table o.layout size (sym found) (sym laid));
         aims = subst (λ bytes. AimsIn bytes o.layout (length image) o.aim) (sym here) aimed;
         fresh = subst (λ bytes. IsFresh options bytes o.device) (sym here) fresh;
       };

@@ -1,8 +1,7 @@
 -- How a call with an update ends, from what was read, made, put and pushed.
 use mathlib.Core.Logic.{◌⊎◌, inl, inr}
 use Rattle.std.proofs.Common.{◌≡◌, ℕ, List, [], ◌∷◌, Option, Some, None, Result, Ok, Err, refl, sym, ap, ◌∙◌, subst}
-use Rattle.std.specs.Prelude.{string_bytes, codes}
-use Rattle.pipe_ends.specs.Fault.{Rose}
+use Rattle.std.specs.Prelude.{IfSome, string_bytes, codes}
 use Rattle.pipe_ends.specs.Store.{Files, TellsPut}
 use Rattle.pipe_ends.specs.Sink.{TellsAll, TellsSome}
 use Rattle.power_cut.specs.declared.legs.LegEnd.{LegEnd}
@@ -62,7 +61,7 @@ whole_by told u t put before after ends.Empty is = is
 whole_by told u t put before after (ends.Bad why) is = is
 
 -- an update whose trial was told ended so
-pub told_ends : (told : Option Files) (u : Update) (t : Trial) (status : Status)
+told_ends : (told : Option Files) (u : Update) (t : Trial) (status : Status)
     (put : Option Files) (before after : Option (List ℕ)) → IsMade told u t
     → EndsBy u t status told put before after
     → UpdateEnds told u status (Some t) put before after
@@ -134,7 +133,7 @@ refused_ends told u name why status before after is (inr (inr (inr none, text)))
     })))
 
 -- a call with an update that was not made ended so
-pub unmade_ends : (told : Option Files) (u : Update) (first now : ℕ) (error : CommandError)
+unmade_ends : (told : Option Files) (u : Update) (first now : ℕ) (error : CommandError)
     (status : Status) (before after : Option (List ℕ))
     → IsUpdateEnd told u first now (Err error) → Refuses error status before after
     → UpdateEnds told u status None told before after
@@ -150,22 +149,20 @@ unmade_ends told u first now (Failed Store) status before after counted (fault, 
 unmade_ends told u first now (Failed OutOfMemory) status before after counted (none, silent) =
     rw none (inl (record { none = refl; unput = refl; silent = silent }))
 
--- it is a store fault only where the store counted one
-refusal_no_fault : (name : List ℕ) (why : Refusal) (status : Status) (before after : Option (List ℕ))
-    → IsRefusal name why status before after → status ≡ StoreFault → ⊥
-refusal_no_fault name why status before after (inl (none, silent)) is = cc
-refusal_no_fault name why status before after (inr (inl (work, text))) is = cc
-refusal_no_fault name why status before after (inr (inr (inl fault, text))) is = cc
-refusal_no_fault name why status before after (inr (inr (inr none, text))) is = cc
+-- a call with words that are this update ended so: it was made, or not
+pub asked_told : (asked : Option Update) (u : Update) (told : Option Files) (t : Trial)
+    (status : Status) (trial : Option Trial) (read put : Option Files)
+    (before after : Option (List ℕ)) → Some u ≡ asked → trial ≡ Some t → IsMade told u t
+    → read ≡ told → EndsBy u t status read put before after
+    → IfSome asked (λ u. UpdateEnds told u status trial put before after)
+asked_told asked u told t status trial read put before after is some made same ends =
+    rw (sym is, some)
+    (told_ends told u t status put before after made (rw same at ends))
 
-pub unmade_fault : (told : Option Files) (u : Update) (first now : ℕ) (error : CommandError)
-    (status : Status) (before after : Option (List ℕ))
-    → IsUpdateEnd told u first now (Err error) → Refuses error status before after
-    → status ≡ StoreFault → Rose first now
-unmade_fault told u first now (Absent file name) status before after comes refuses is =
-    absurd (refusal_no_fault _ _ status before after refuses is)
-unmade_fault told u first now (RefusedBy why) status before after comes refuses is =
-    absurd (refusal_no_fault _ _ status before after refuses is)
-unmade_fault told u first now (Failed Store) status before after counted refuses is = counted
-unmade_fault told u first now (Failed OutOfMemory) status before after counted refuses is =
-    absurd (let none = refuses.0 in cc)
+pub asked_unmade : (asked : Option Update) (u : Update) (told : Option Files) (first now : ℕ)
+    (error : CommandError) (status : Status) (trial : Option Trial) (read : Option Files)
+    (before after : Option (List ℕ)) → Some u ≡ asked → trial ≡ None
+    → IsUpdateEnd told u first now (Err error) → read ≡ told → Refuses error status before after
+    → IfSome asked (λ u. UpdateEnds told u status trial read before after)
+asked_unmade asked u told first now error status trial read before after is none comes same refuses =
+    rw (sym is, none, same) (unmade_ends told u first now error status before after comes refuses)

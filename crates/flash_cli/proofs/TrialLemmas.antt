@@ -1,5 +1,6 @@
 -- A trial by other words on its legs.
-use Rattle.std.proofs.Common.{ℕ, Bool, true, false, List}
+use Rattle.std.proofs.Common.{ℕ, Bool, true, false, List, Result, Ok, Err}
+use Rattle.std.specs.Prelude.{IfOk}
 use Rattle.std.specs.Borrow.{Bor}
 use Rattle.nor_device.specs.Ram.{Ram}
 use Rattle.crash_images.specs.Cut.{CutDevice}
@@ -50,3 +51,17 @@ module _ (confirms others : CutDevice Ram → Bor Booted → Bor Rewrite → Ran
     journal = trial.journal;
     behind = session_by _ upto trial.session.leg trial.session.dev t trial.behind;
   }
+
+-- the same of an answer
+pub trial_of : {E : Type 0} (r : Result Trial E) (layout : Places) (first : List ℕ) (upto : Upto)
+    (writes : Ran → Type 0) (confirms : CutDevice Ram → Bor Booted → Bor Rewrite → Ran → Type 0)
+    → IfOk r (IsTrial writes confirms layout first upto) → (so_writes : Ran → Type 0)
+    → (so_confirms : CutDevice Ram → Bor Booted → Bor Rewrite → Ran → Type 0)
+    → ((ran : Ran) → writes ran → so_writes ran)
+    → ((dev : CutDevice Ram) (at : Bor Booted) (write : Bor Rewrite) (ran : Ran)
+    → MayConfirm layout first dev at.now write.now → confirms dev at write ran
+    → so_confirms dev at write ran)
+    → IfOk r (IsTrial so_writes so_confirms layout first upto)
+trial_of (Ok t) layout first upto writes confirms is so_writes so_confirms written confirmed =
+    trial_by confirms so_confirms layout first confirmed writes so_writes upto t written is
+trial_of (Err why) layout first upto writes confirms is so_writes so_confirms written confirmed = tt

@@ -28,6 +28,7 @@ use Rattle.boot_run.specs.declared.aims.Aim.{Aim}
 use Rattle.boot_run.specs.declared.aims.AimNo.{AimNo}
 use Rattle.boot_run.specs.declared.aims.AimNo.TheVariants as no
 use Rattle.boot_run.specs.Aim.{IsAimed, running_of}
+use Rattle.duo_run.specs.Legs.{HasTable}
 use Rattle.flash_text.specs.declared.refusal.Refusal.{Refusal}
 use Rattle.flash_text.specs.declared.refusal.Refusal.TheVariants.{FlashSize, Table, Script, NotSettled, Conflict, SlotFlags, SeqSpent, TooLarge}
 use Rattle.flash_cli.specs.declared.error.CommandError.{CommandError}
@@ -190,6 +191,7 @@ opening_with image o = record {
 -- the program is to make an update of this image: layout, aim and device are those of the flash
 pub record IsBegun (image : List ℕ) (options : Options) (o : CodeOpening) : Type 0 where
   pub laid : layout_in o.device.inner.bytes ≡ Ok o.layout
+  pub table : HasTable o.table o.layout o.device.inner.bytes
   pub aims : AimsIn o.device.inner.bytes o.layout (length image) o.aim
   pub fresh : IsFresh options o.device.inner.bytes o.device
 

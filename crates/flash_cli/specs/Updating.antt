@@ -1,11 +1,9 @@
 -- What an update comes to: a trial, the status by its last leg, its text, and the file that is put.
-use Rattle.std.specs.Prelude.{◌≡◌, ◌⊎◌, ℕ, ◌+◌, nat_le, if◌then◌else◌, List, [], ◌∷◌, length, Option, Some, None, Result, Ok, Err, string_bytes, codes}
+use Rattle.std.specs.Prelude.{◌≡◌, ◌≢◌, ◌⊎◌, ℕ, ◌+◌, nat_le, if◌then◌else◌, List, [], ◌∷◌, length, Option, Some, None, Result, Ok, Err, string_bytes, codes}
 use Rattle.crash_images.specs.Cut.{CutDevice}
 use Rattle.nor_device.specs.Ram.{Ram}
-use Rattle.partition_table.specs.declared.app.App.TheVariants.{Ota}
 use Rattle.boot_select.specs.Boots.{entries_in, images_in}
 use Rattle.image_verify.specs.Held.{held}
-use Rattle.rollback.specs.Boots.{boots_in}
 use Rattle.boot_run.specs.declared.aims.Aim.{Aim}
 use Rattle.boot_run.specs.Booted.{IsBoot}
 use Rattle.pipe_ends.specs.Store.{Files}
@@ -13,10 +11,10 @@ use Rattle.pipe_ends.specs.Sink.{TellsAll, TellsSome}
 use Rattle.power_cut.specs.declared.legs.Leg.{Leg}
 use Rattle.power_cut.specs.declared.legs.LegEnd.{LegEnd}
 use Rattle.power_cut.specs.declared.legs.LegEnd.TheVariants.{Done as DoneEnd, Device, Cut, FirstByte as FirstByteEnd, Empty as EmptyEnd, Bad}
-use Rattle.power_cut.specs.declared.legs.Upto.TheVariants.{Confirm as UptoConfirm, Session as UptoSession}
+use Rattle.power_cut.specs.declared.legs.Upto.TheVariants.{Boot as UptoBoot}
 use Rattle.power_cut.specs.declared.outcome.Trial.{Trial}
 use Rattle.power_cut.specs.Update.{BootsEither, session_end, slot_size}
-use Rattle.power_cut.specs.Whole.{AreDone, IsTrial}
+use Rattle.power_cut.specs.Whole.{AreDone, BootsNew, IsTrial}
 use Rattle.flash_text.specs.declared.refusal.Refusal.{Refusal}
 use Rattle.flash_text.specs.declared.refusal.Refusal.TheVariants.{Absent as AbsentFile, Empty, FirstByte, Image}
 use Rattle.flash_text.specs.UpdateText.{update_text}
@@ -72,10 +70,8 @@ pub record IsUpdate (options : Options) (o : Opening) (t : Trial) : Type 0 where
   pub boots : BootsEither o.layout o.flash aim o.image t.flash.items
   pub after : IsBoot o.layout (images_in held o.layout t.flash.items)
       (entries_in o.layout t.flash.items) (Some t.after)
-  pub installed : options.upto ≡ UptoConfirm → AreDone t.legs.items
-      → boots_in held o.layout t.flash.items ≡ Some (Ota aim.slot, o.image)
-  pub announced : options.upto ≡ UptoSession → AreDone t.legs.items
-      → boots_in held o.layout t.flash.items ≡ Some (Ota aim.slot, o.image)
+  pub installed : options.upto ≢ UptoBoot → AreDone t.legs.items
+      → BootsNew o.layout aim o.image t.flash.items
 
 -- the status of an update whose last leg ended so
 abbrev pub status_by : LegEnd → Status

@@ -36,8 +36,9 @@ mod updating;
 mod verdict;
 mod verified;
 
+use crate::serve::serve;
 use crate::status::Status;
-use crate::top::plain;
+use flash_ops::NoPace;
 use pipe_ends::{DirStore, StdSink};
 use std::env;
 use std::io::{self, ErrorKind};
@@ -59,5 +60,6 @@ fn main(rt: HostRuntime) -> ExitCode {
     };
     let mut store = DirStore::new(&rt);
     let mut sink = StdSink::new(&rt);
-    ExitCode::from(plain(rt.alloc(), &words, &mut store, &mut sink).code())
+    let served = serve(&rt, rt.alloc(), &words, &mut store, &mut sink, &NoPace);
+    ExitCode::from(served.status.code())
 }

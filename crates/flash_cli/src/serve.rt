@@ -14,16 +14,21 @@ use crate::status::Status;
 use crate::top::plain;
 use crate::update_words::Update;
 use crate::updating::run_update;
+use flash_ops::Pace;
 use pipe_ends::{Sink, Store};
 use std::alloc::Global;
+use std::sync::Wait;
+use std::thread::Threads;
 
 /// Carries out the command that the words are, also one in which both cores are at work. An update
 /// puts the flash that is left, whatever ended it, and pushes its lines.
-pub(crate) fn serve<S: Store, K: Sink>(
+pub(crate) fn serve<S: Store, K: Sink, P: Pace + Sync, R: Threads + Wait + Sync>(
+    rt: &R,
     alloc: Global,
     words: &[String],
     store: &mut S,
     out: &mut K,
+    pace: &P,
 ) -> Served
     // Words that are no update are carried out as `plain` does, without a trial.
     ensures work { asked_update words.now ≡ None → IsWork result.status
@@ -54,7 +59,7 @@ pub(crate) fn serve<S: Store, K: Sink>(
         → Rose (K.faults out.old) (K.faults out.new) }
 {
     match Update::read(words) {
-        Some(update) => match run_update(alloc, store, &update) {
+        Some(update) => match run_update(rt, alloc, store, &update, pace) {
             Ok(trial) => end_update(alloc, &update, trial, store, out),
             Err(error) => refuse_update(alloc, error, out),
         },

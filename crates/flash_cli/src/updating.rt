@@ -11,15 +11,20 @@ use crate::files::needed_file;
 use crate::opening::opened;
 use crate::running::run;
 use crate::update_words::{Options, Update};
+use flash_ops::Pace;
 use pipe_ends::Store;
 use power_cut::Trial;
 use std::alloc::Global;
+use std::sync::Wait;
+use std::thread::Threads;
 
 /// Reads the files of an update and makes it, or tells why it was not made.
-pub(crate) fn run_update<S: Store>(
+pub(crate) fn run_update<S: Store, P: Pace + Sync, R: Threads + Wait + Sync>(
+    rt: &R,
     alloc: Global,
     store: &mut S,
     update: &Update<'_>,
+    pace: &P,
 ) -> Result<Trial, CommandError>
     requires options { AreOptions update.now.options }
     ensures exact { IsUpdateEnd (S.files store.old) (shown_update update.now)
@@ -31,23 +36,25 @@ pub(crate) fn run_update<S: Store>(
     let flash = needed_file(alloc, store, 0, update.flash)?;
     let image = needed_file(alloc, store, 1, update.image)?;
     let text = needed_file(alloc, store, 2, update.script)?;
-    update_of(alloc, flash, &image, &text, &update.options)
+    update_of(rt, alloc, flash, &image, &text, &update.options, pace)
 }
 
 /// Makes an update of these files, or tells why it may not begin.
-fn update_of(
+fn update_of<P: Pace + Sync, R: Threads + Wait + Sync>(
+    rt: &R,
     alloc: Global,
     flash: Vec<u8>,
     image: &[u8],
     text: &[u8],
     options: &Options,
+    pace: &P,
 ) -> Result<Trial, CommandError>
     requires options { AreOptions options.now }
     ensures exact { UpdateOf flash.items image.now text.now options.now result }
     ensures readable { IfOk result AreReadable }
 {
     let opening = opened(alloc, flash, image, text, options)?;
-    match run(opening, image, options) {
+    match run(rt, alloc, opening, image, options, pace) {
         Ok(trial) => Ok(trial),
         Err(_) => Err(CommandError::Failed(Failure::Memory)),
     }

@@ -34,7 +34,7 @@ returns-in-Ok-aim_at c = record {
     table = c.in-Ok.table;
     layout = c.in-Ok-layout_by.layout;
     aim = c.in-Ok-aim_at.aim;
-  }) _ (c.in-Ok.ensures.exact ∙ ap rows_in c.deref.ensures.value)
+  }) _ (rw c.deref.ensures.value at c.in-Ok.ensures.size) (c.in-Ok.ensures.exact ∙ ap rows_in c.deref.ensures.value)
       c.in-Ok-layout_by.ensures.exact refl c.in-Ok-aim_at.ensures.aims
       (subst (λ bytes. IsFresh c.args.options.now bytes c.chosen_device.result) c.in-Ok-aim_at.ensures.same
       c.chosen_device.ensures.fresh);
