@@ -35,7 +35,7 @@ same_state : (e : Entry) → e.state ≡ 2 → e ≡ with_state 2 e
 same_state e is = λ i. record e { state = is i }
 
 -- the entries with the one of this sector VALID, where it is so already
-in_state_same : (es : ℕ → Entry) (y k : ℕ) → (es y).state ≡ 2 → es k ≡ in_state 2 y es k
+pub in_state_same : (es : ℕ → Entry) (y k : ℕ) → (es y).state ≡ 2 → es k ≡ in_state 2 y es k
 in_state_same es y k is = at (cases_Bool (k == y))
   where
     at : ((k == y) ≡ true) ⊎ ((k == y) ≡ false) → es k ≡ in_state 2 y es k

@@ -11,3 +11,6 @@ pub mod WholeLemmas
 pub mod AimLemmas
 pub mod StoredLemmas
 pub mod ConfirmedLemmas
+pub mod KeptLemmas
+pub mod SettleLemmas
+pub mod ToldPairLemmas

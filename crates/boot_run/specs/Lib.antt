@@ -1,5 +1,5 @@
 -- In reading order: steps on a device, the steps of a rewrite, the entries of a device, what
--- verifying tells, what a loss of power leaves, what a boot answers.
+-- verifying tells, what a loss of power leaves, what a boot answers, what is left of a pair.
 pub mod Made
 pub mod Rewriting
 pub mod Read
@@ -8,3 +8,4 @@ pub mod Crashed
 pub mod Booted
 pub mod Verdict
 pub mod Aim
+pub mod Paired

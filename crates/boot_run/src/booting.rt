@@ -16,6 +16,7 @@ ghost use Rattle.boot_run.specs.Read.{OfEntries};
 ghost use Rattle.boot_run.specs.Verified.{IsFirst};
 ghost use Rattle.boot_run.specs.Crashed.{IsLeftByVerdicts, StillBoots};
 ghost use Rattle.boot_run.specs.Booted.{CountsSteps, IsBoot, boot_answer};
+ghost use Rattle.boot_run.specs.Paired.{BootSettles, IsPairIn, KeepsPairs};
 
 use crate::booted::{BootFault, Booted};
 use crate::entries::read_entries;
@@ -52,6 +53,9 @@ pub fn boot<D: Nor>(device: &mut D, layout: &Layout) -> Result<Booted, BootFault
         (λ flash. boot_writes (entries_in layout.now flash))
         (D.bytes device.old) (D.bytes device.new)) }
     ensures still { StillBoots layout.now (D.bytes device.old) (D.bytes device.new) }
+    ensures pair { KeepsPairs layout.now (IsPairIn layout.now)
+        (λ flash. boot_writes (entries_in layout.now flash)) (BootSettles layout.now)
+        (D.bytes device.old) (D.bytes device.new) (boot_answer result) }
 {
     booted(boot_on(device, layout))
 }
@@ -89,6 +93,9 @@ fn boot_on<D: Nor>(device: &mut D, layout: &Layout) -> Result<Option<Booted>, No
         (λ flash. boot_writes (entries_in layout.now flash))
         (D.bytes device.old) (D.bytes device.new)) }
     ensures still { StillBoots layout.now (D.bytes device.old) (D.bytes device.new) }
+    ensures pair { KeepsPairs layout.now (IsPairIn layout.now)
+        (λ flash. boot_writes (entries_in layout.now flash)) (BootSettles layout.now)
+        (D.bytes device.old) (D.bytes device.new) result }
 {
     let (first, second) = read_entries(device, layout)?;
     boot_by(device, layout, first, second)

@@ -12,6 +12,7 @@ ghost use Rattle.boot_run.specs.Rewriting.{rewrites};
 ghost use Rattle.boot_run.specs.Read.{OfEntries};
 ghost use Rattle.boot_run.specs.Crashed.{IsLeftByVerdicts, StillBoots};
 ghost use Rattle.boot_run.specs.Verdict.{Answers, BootsTold, confirm_answer, confirmation, writes_of};
+ghost use Rattle.boot_run.specs.Paired.{ConfirmSettles, IsActivePair, KeepsPairs};
 
 use crate::entries::read_entries;
 use crate::told::{ConfirmFault, Told};
@@ -46,6 +47,10 @@ pub fn confirm<D: Nor>(device: &mut D, layout: &Layout) -> Result<Told, ConfirmF
         (D.bytes device.old) (D.bytes device.new)) }
     ensures still { StillBoots layout.now (D.bytes device.old) (D.bytes device.new) }
     ensures boots { BootsTold layout.now (D.bytes device.old) (D.bytes device.new)
+        (confirm_answer result) }
+    ensures pair { KeepsPairs layout.now (IsActivePair layout.now)
+        (λ flash. writes_of (confirmation (entries_in layout.now flash)))
+        (ConfirmSettles layout.now) (D.bytes device.old) (D.bytes device.new)
         (confirm_answer result) }
 {
     confirmed(confirm_on(device, layout))
@@ -84,6 +89,9 @@ fn confirm_on<D: Nor>(device: &mut D, layout: &Layout) -> Result<Result<Told, No
         (D.bytes device.old) (D.bytes device.new)) }
     ensures still { StillBoots layout.now (D.bytes device.old) (D.bytes device.new) }
     ensures boots { BootsTold layout.now (D.bytes device.old) (D.bytes device.new) result }
+    ensures pair { KeepsPairs layout.now (IsActivePair layout.now)
+        (λ flash. writes_of (confirmation (entries_in layout.now flash)))
+        (ConfirmSettles layout.now) (D.bytes device.old) (D.bytes device.new) result }
 {
     let (first, second) = read_entries(device, layout)?;
     confirm_by(device, layout, &first, &second)

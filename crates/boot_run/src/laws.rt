@@ -1,8 +1,9 @@
 //! What boots of a flash, and of what a loss of power leaves of rewrites, over all flashes.
 
-ghost use Rattle.std.specs.Prelude.{◌≡◌, ◌≢◌, ◌⊎◌, ◌<◌, ◌≤◌, ◌+◌, ◌*◌, ℕ, All, List, None, length};
+ghost use Rattle.std.specs.Prelude.{◌≡◌, ◌≢◌, ◌⊎◌, ◌<◌, ◌≤◌, ◌+◌, ◌*◌, ℕ, All, Bool, List, None, length};
 ghost use Rattle.nor_device.specs.Flash.{after_steps};
 ghost use Rattle.crash_images.specs.Crash.{LeftAfter};
+ghost use Rattle.partition_table.specs.declared.app.App.{App};
 ghost use Rattle.partition_table.specs.Layout.{IsPlaced, Places};
 ghost use Rattle.otadata.specs.declared.entry.Entry.{Entry};
 ghost use Rattle.otadata.specs.Entry.{IsStored};
@@ -18,6 +19,8 @@ ghost use Rattle.boot_run.specs.Rewriting.{AreShort, rewrite, rewrites};
 ghost use Rattle.boot_run.specs.declared.aims.Aim.{Aim};
 ghost use Rattle.boot_run.specs.Aim.{Begins, IsAimed};
 ghost use Rattle.boot_run.specs.Crashed.{IsRestated, LeavesVerdict, LeavesVerdicts};
+ghost use Rattle.boot_run.specs.Verdict.{confirmation, rejection, writes_of};
+ghost use Rattle.boot_run.specs.Paired.{IsActivePair, IsPairIn, IsSettledPair, IsWaiting, KeepsPair, Pairing};
 
 /// What a loss of power may leave, at any moment, of a rewrite that gives an entry another state:
 /// of it boots what boots where the entry is VALID, or is INVALID, or the entry that is found
@@ -71,4 +74,46 @@ pub fn aims_begin_updates()
     ensures { (layout : Places) (images : Images) (entries : ℕ → Entry) (long : ℕ) (aim : Aim)
         → 0 < length layout.slots → IsAimed layout images entries long aim
         → Begins layout images entries aim }
+{}
+
+/// What a loss of power may leave of a flash that is a pair, at any moment of a boot (`boot`), and of
+/// a confirmation (`confirm`) or a rejection (`reject`) while the pair's entry is the active one: it
+/// is that pair again, or the entry that is found in its sector matches by chance, seen from that
+/// rewrite.
+pub fn lost_rewrites_keep_pairs()
+    ensures boot { (layout : Places) (size : ℕ) (flash left : List ℕ) (pair : Pairing)
+        → IsPlaced layout size → IsPairIn layout flash pair
+        → LeftAfter flash (rewrites layout.otadata (boot_writes (entries_in layout flash))) left
+        → KeepsPair layout flash (boot_writes (entries_in layout flash)) pair left }
+    ensures confirm { (layout : Places) (size : ℕ) (flash left : List ℕ) (pair : Pairing)
+        → IsPlaced layout size → IsActivePair layout flash pair
+        → (let writes = writes_of (confirmation (entries_in layout flash)) in
+        LeftAfter flash (rewrites layout.otadata writes) left
+        → KeepsPair layout flash writes pair left) }
+    ensures reject { (layout : Places) (size : ℕ) (flash left : List ℕ) (pair : Pairing)
+        (whole : App → Bool) → IsPlaced layout size → IsActivePair layout flash pair
+        → (let writes = writes_of (rejection layout whole (entries_in layout flash)) in
+        LeftAfter flash (rewrites layout.otadata writes) left
+        → KeepsPair layout flash writes pair left) }
+{}
+
+/// Once all rewrites of a boot of a pair are made, on a flash of bytes, it is settled, or its entry is
+/// active and waits (`boot`); where the entry waited before, it is settled (`second_boot`). So it is
+/// once a confirmation of its active entry is made (`confirm`).
+pub fn whole_rewrites_settle_pairs()
+    ensures boot { (layout : Places) (flash : List ℕ) (pair : Pairing)
+        → IsPlaced layout (length flash) → All (λ b. b < 256) flash → IsPairIn layout flash pair
+        → (let left = after_steps flash
+        (rewrites layout.otadata (boot_writes (entries_in layout flash))) in
+        IsSettledPair layout left pair ⊎ IsWaiting layout left pair.sector) }
+    ensures second_boot { (layout : Places) (flash : List ℕ) (pair : Pairing)
+        → IsPlaced layout (length flash) → All (λ b. b < 256) flash → IsPairIn layout flash pair
+        → (entries_in layout flash pair.sector).state ≡ 1
+        → IsSettledPair layout (after_steps flash
+        (rewrites layout.otadata (boot_writes (entries_in layout flash)))) pair }
+    ensures confirm { (layout : Places) (flash : List ℕ) (pair : Pairing)
+        → IsPlaced layout (length flash) → All (λ b. b < 256) flash
+        → IsActivePair layout flash pair
+        → IsSettledPair layout (after_steps flash
+        (rewrites layout.otadata (writes_of (confirmation (entries_in layout flash))))) pair }
 {}

@@ -23,7 +23,10 @@ pub use aims::{Aim, AimNo};
 pub use booted::{BootFault, Booted};
 pub use booting::boot;
 pub use confirming::confirm;
-pub use laws::{aims_begin_updates, lost_rewrites_leave_verdicts, rewrites_are_read_back};
+pub use laws::{
+    aims_begin_updates, lost_rewrites_keep_pairs, lost_rewrites_leave_verdicts,
+    rewrites_are_read_back, whole_rewrites_settle_pairs,
+};
 pub use previewing::{NoApp, preview};
 pub use rejecting::reject;
 pub use told::{ConfirmFault, RejectFault, Told};

@@ -11,6 +11,7 @@ ghost use Rattle.boot_run.specs.Rewriting.{rewrites};
 ghost use Rattle.boot_run.specs.Read.{OfWhole, whole_in};
 ghost use Rattle.boot_run.specs.Crashed.{IsLeftByVerdicts, StillBoots};
 ghost use Rattle.boot_run.specs.Verdict.{Answers, reject_answer, rejection, writes_of};
+ghost use Rattle.boot_run.specs.Paired.{IsActivePair, KeepsPairs};
 
 use crate::confirming::active_slot;
 use crate::entries::read_entries;
@@ -45,6 +46,10 @@ pub fn reject<D: Nor>(device: &mut D, layout: &Layout) -> Result<Told, RejectFau
         (λ flash. writes_of (rejection layout.now (whole_in layout.now flash)
         (entries_in layout.now flash))) (D.bytes device.old) (D.bytes device.new)) }
     ensures still { StillBoots layout.now (D.bytes device.old) (D.bytes device.new) }
+    ensures pair { KeepsPairs layout.now (IsActivePair layout.now)
+        (λ flash. writes_of (rejection layout.now (whole_in layout.now flash)
+        (entries_in layout.now flash))) (λ flash pair left. Unit {0})
+        (D.bytes device.old) (D.bytes device.new) (reject_answer result) }
 {
     rejected(reject_on(device, layout))
 }
@@ -82,6 +87,10 @@ fn reject_on<D: Nor>(device: &mut D, layout: &Layout) -> Result<Result<Told, Rej
         (λ flash. writes_of (rejection layout.now (whole_in layout.now flash)
         (entries_in layout.now flash))) (D.bytes device.old) (D.bytes device.new)) }
     ensures still { StillBoots layout.now (D.bytes device.old) (D.bytes device.new) }
+    ensures pair { KeepsPairs layout.now (IsActivePair layout.now)
+        (λ flash. writes_of (rejection layout.now (whole_in layout.now flash)
+        (entries_in layout.now flash))) (λ flash pair left. Unit {0})
+        (D.bytes device.old) (D.bytes device.new) result }
 {
     let (first, second) = read_entries(device, layout)?;
     let whole = whole_on(device, layout)?;

@@ -1,6 +1,5 @@
 -- For callers: the room that is left, and what a bus is opened with.
-use Rattle.std.proofs.Common.{◌≡◌, ℕ, ◌+◌, ◌-◌, ◌*◌, ◌<◌, ◌≤◌, ◌++◌, ◌∙◌, ap, subst, sym, refl, List, [], ◌∷◌, Option, Some, None, Result, Ok, Err, ◌⊎◌, inl, inr, arith}
-use Rattle.core_state.specs.declared.registers.Regs.{Regs}
+use Rattle.std.proofs.Common.{◌≡◌, ℕ, ◌+◌, ◌-◌, ◌*◌, ◌<◌, ◌≤◌, ◌++◌, ◌∙◌, ap, subst, sym, refl, List, Option, Some, None, Result, Ok, Err, inl, inr, arith}
 use Rattle.nor_device.specs.declared.step.Step.{Step}
 use Rattle.nor_device.specs.declared.nor.NorFault.{NorFault}
 use Rattle.mmu_map.specs.Map.{Map}
@@ -10,8 +9,9 @@ use Rattle.bus_hub.specs.declared.reads.FetchNo.{FetchNo}
 use Rattle.bus_hub.specs.declared.reads.FetchNo.TheVariants as refusals
 use Rattle.bus_hub.specs.Room.{Kept}
 use Rattle.bus_hub.specs.Hub.{Hub, IsTold, IsBaseOf, opened, needs, byte_needs}
-use Rattle.bus_hub.specs.Told.{fetch_items, held}
-use Rattle.cache_gate.specs.Own.{Own, HasRoom, HasRoomIn, Keeps, Adds, Spends, HasFetched, HasStepped, base_of}
+use Rattle.bus_hub.specs.Told.{held}
+use Rattle.cache_gate.specs.Own.{Own, HasRoom, Keeps, Adds, HasFetched, HasStepped, base_of}
+use Rattle.cache_gate.specs.Rounds.{Spends}
 use Rattle.cache_gate.proofs.Taken.{needs-append, byte_needs-append}
 
 module _ {S K : Type 0} where

@@ -1,5 +1,5 @@
 -- What stays of a typed state after a walk or a turn.
-use Rattle.std.proofs.Common.{◌≡◌, ℕ, ◌++◌, ◌<◌, ◌∙◌, ap, subst, sym, refl, inl, inr, ◌⊎◌, List, [], ◌∷◌, Option, Some, None, Bool, true, false, append-nil, append_assoc, Result, Ok, Err}
+use Rattle.std.proofs.Common.{◌≡◌, ℕ, ◌++◌, ◌<◌, ◌∙◌, ap, subst, sym, refl, inl, inr, List, [], ◌∷◌, Option, None, true, false, append-nil, append_assoc, Result, Ok, Err}
 use Rattle.std.specs.Prelude.{IsNone, IsSome}
 use Rattle.core_state.specs.declared.registers.Record.{Record}
 use Rattle.core_state.specs.declared.registers.Regs.{Regs}
@@ -19,14 +19,14 @@ use Rattle.park_words.specs.Views.{Seated}
 use Rattle.park_words.specs.Story.{done_by, Saw, RanToRest, events_of}
 use Rattle.park_words.proofs.Stories.{own_both}
 use Rattle.bus_hub.specs.declared.did.Did.{Did}
-use Rattle.bus_hub.specs.declared.did.Did.TheVariants.{Opened, Closed, Broken, Fetched, Denied, Missed, Masked}
+use Rattle.bus_hub.specs.declared.did.Did.TheVariants.{Opened, Closed, Broken, Fetched, Missed, Masked}
 use Rattle.bus_hub.specs.declared.reads.FetchNo.{FetchNo}
 use Rattle.bus_hub.specs.declared.reads.FetchNo.TheVariants as refusals
 use Rattle.bus_hub.specs.Shares.{Begun, open_after, open_from}
 use Rattle.cache_gate.specs.Works.{Works, works_of, events_in, work_in}
-use Rattle.cache_gate.specs.Own.{Held, Own, RanBoth, own_of, held_of, behind, kept, to_phase, later_on, did, IsTrueTo, IsRunning, IsMaskedIn, Adds, HasStepped, IsBroken}
-use Rattle.cache_gate.specs.Said.{HasRead, HasPolled, HasFinished, HasMade, IsTorn, Added, fetch_event, ended, number_of_open}
-use Rattle.cache_gate.proofs.Walks.{works_of-append, events_in-append, works_first, works_then}
+use Rattle.cache_gate.specs.Own.{Held, RanBoth, own_of, held_of, behind, kept, to_phase, later_on, did, IsTrueTo, IsRunning, IsMaskedIn, Adds, HasStepped}
+use Rattle.cache_gate.specs.Said.{HasRead, HasPolled, HasFinished, HasMade, Added, fetch_event, ended, number_of_open}
+use Rattle.cache_gate.proofs.Walks.{works_of-append, events_in-append, works_then}
 
 -- a core that did this, and added its items, is still true to its share
 true_after : (c c' : ℕ) (seen seen' : List Entry) (share share' items : List Did)

@@ -1,5 +1,5 @@
 -- What is known of the bus once the turn is taken, and what may be given back after a call of it.
-use Rattle.std.proofs.Common.{◌≡◌, ℕ, zero, suc, ◌+◌, ◌<◌, ◌≤◌, ◌++◌, ◌∙◌, ap, subst, sym, refl, inl, inr, ◌⊎◌, List, [], ◌∷◌, Option, Some, None, Bool, true, false, append-nil, append_assoc, eq-eqb, length, drop, ◌-◌, length-append, arith, Result, Ok, Err}
+use Rattle.std.proofs.Common.{◌≡◌, ℕ, zero, suc, ◌+◌, ◌<◌, ◌≤◌, ◌++◌, ◌∙◌, ap, subst, sym, refl, inl, List, [], ◌∷◌, Option, Some, None, Bool, true, false, eq-eqb, length, drop, length-append, arith, Result, Ok, Err}
 use Rattle.std.proofs.Math.Seq.{drop-append_seam}
 use Rattle.std.specs.Prelude.{IsNone, IsSome, IfSome, OnOk, OnErr, cond, ◌==◌, ◌≢◌, ◌↔◌}
 use Rattle.std.specs.Int.{IsBitSet}
@@ -8,17 +8,16 @@ use Rattle.core_state.specs.declared.registers.Regs.{Regs}
 use Rattle.core_state.specs.Registers.{saved_and_masked, restored}
 use Rattle.core_state.specs.Sharing.{GoesOn, in_order}
 use Rattle.duo_machine.specs.declared.machine.Phase.TheVariants.{Running, Quiet}
-use Rattle.duo_machine.specs.declared.events.Kind.{Kind}
 use Rattle.duo_machine.specs.declared.events.Kind.TheVariants as kinds
 use Rattle.duo_machine.specs.Machine.{other}
 use Rattle.duo_machine.specs.Table.{IsAwake, bit_of}
 use Rattle.park_words.specs.declared.view.View.{View}
 use Rattle.park_words.specs.Views.{Seated, is_step_of}
 use Rattle.park_words.specs.Rule.{StandsBy}
-use Rattle.park_words.specs.Told.{Work, IsBeforeQuiet, Does, HasTaken, HasGiven, Known, Gives, event_alone, items_alone}
+use Rattle.park_words.specs.Told.{Work, IsBeforeQuiet, HasTaken, HasGiven, Known, Gives, event_alone, items_alone}
 use Rattle.park_words.proofs.Giving.{gives}
 use Rattle.bus_hub.specs.declared.did.Did.{Did}
-use Rattle.bus_hub.specs.declared.did.Did.TheVariants.{Opened, Closed, Broken, Fetched, Noted, Denied, Mapping, Unmapping, Missed, Masked}
+use Rattle.bus_hub.specs.declared.did.Did.TheVariants.{Opened, Closed, Broken, Fetched, Noted, Denied, Missed, Masked}
 use Rattle.nor_device.specs.declared.step.Step.{Step}
 use Rattle.nor_device.specs.declared.nor.Ready.{Ready}
 use Rattle.nor_device.specs.declared.nor.Ready.TheVariants as answers
@@ -35,16 +34,16 @@ use Rattle.bus_hub.specs.declared.entry.Act.TheVariants.{Set as SetAct}
 use Rattle.bus_hub.specs.Room.{HasRoom as HasRoomNow}
 use Rattle.bus_hub.specs.Fetch.{space_at, IsServed, IsFixed, IsUnmapped}
 use Rattle.bus_hub.specs.Fetch as serving
-use Rattle.bus_hub.specs.Log.{run_of, opening}
+use Rattle.bus_hub.specs.Log.{run_of}
 use Rattle.bus_hub.specs.Hub.{Hub, Fits, record_of, with_record, noted, core_of, needs, byte_needs, owed}
-use Rattle.bus_hub.specs.Shares.{Begun, own_begun, open_from, begun_of}
-use Rattle.bus_hub.specs.Told.{asked, started, polled, held, number_of, set_to, with_device, running_step, ended_step, after_poll, fetch_items, added, fetched, Fetches, IsFetched, IsDenied}
+use Rattle.bus_hub.specs.Shares.{own_begun, open_from, begun_of}
+use Rattle.bus_hub.specs.Told.{asked, started, polled, held, number_of, set_to, with_device, running_step, after_poll, fetch_items, added, Fetches, IsFetched}
 use Rattle.bus_hub.proofs.Fixing.{not_unmapped}
 use Rattle.mmu_map.specs.Map.{Map}
 use Rattle.std.proofs.lemmas.Result.{on_ok_weaker}
 use Rattle.nor_device.specs.Nor.{IsPart}
 use Rattle.cache_gate.specs.Own.{HasRoom, HasRoomIn, OnBase, IsPartOf, held_of, behind}
-use Rattle.cache_gate.specs.Said.{last_of, GivesRoom, HasRead, IsRead, work_by, number_of_open, start_items, begun_items}
+use Rattle.cache_gate.specs.Said.{last_of, GivesRoom, HasRead, work_by, number_of_open, start_items, begun_items}
 use Rattle.cache_gate.specs.declared.said.Said.TheVariants as said
 
 -- no core's step runs, so none does

@@ -1,14 +1,12 @@
 -- What a walk of any number of steps did of a core's own work.
-use Rattle.std.proofs.Common.{◌≡◌, ◌==◌, ℕ, ◌+◌, ◌++◌, ◌∙◌, ap, subst, sym, refl, List, [], ◌∷◌, Option, Some, None, append-nil, append_assoc, true, false, Result, Ok, Err}
+use Rattle.std.proofs.Common.{◌≡◌, ℕ, ◌++◌, ◌∙◌, ap, subst, sym, refl, List, [], ◌∷◌, Option, Some, None, append-nil, append_assoc, Result, Ok, Err}
 use Rattle.duo_machine.specs.declared.events.Kind.{Kind}
 use Rattle.duo_machine.specs.declared.events.Kind.TheVariants as kinds
 use Rattle.park_words.specs.declared.view.Act.{Act}
 use Rattle.park_words.specs.declared.view.Act.TheVariants.{Made, Took, Gave}
 use Rattle.park_words.specs.declared.view.Entry.{Entry}
 use Rattle.park_words.specs.declared.view.View.{View}
-use Rattle.park_words.specs.Story.{entry, done_by, handed, Went, Ran, Saw}
-use Rattle.park_words.specs.Views.{Seated}
-use Rattle.park_words.specs.Told.{Work}
+use Rattle.park_words.specs.Story.{entry, done_by, handed, Went, Ran}
 use Rattle.park_words.proofs.Stories.{own_both, mine_own, ran}
 use Rattle.core_state.specs.declared.registers.Regs.{Regs}
 use Rattle.nor_device.specs.declared.nor.NorFault.{NorFault}

@@ -1,3 +1,4 @@
 pub mod Works
 pub mod Own
+pub mod Rounds
 pub mod Said

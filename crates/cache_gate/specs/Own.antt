@@ -1,5 +1,5 @@
 -- What a core is to its caller, and what its seat knows of it.
-use Rattle.std.specs.Prelude.{◌≡◌, ℕ, ◌+◌, ◌-◌, ◌*◌, ◌<◌, ◌≤◌, Bool, true, false, List, [], ◌∷◌, ◌++◌, length, Option, Some, None, IsNone, IsSome, Result, Ok, Err, ◌⊎◌}
+use Rattle.std.specs.Prelude.{◌≡◌, ℕ, ◌+◌, ◌<◌, ◌≤◌, Bool, false, List, [], ◌∷◌, ◌++◌, length, Option, Some, None, IsNone, IsSome, Result, Ok, Err, ◌⊎◌}
 use Rattle.core_state.specs.declared.registers.Record.{Record}
 use Rattle.core_state.specs.declared.registers.Regs.{Regs}
 use Rattle.core_state.specs.Registers.{masked, own_registers, reset}
@@ -7,12 +7,11 @@ use Rattle.core_state.specs.Sharing.{in_order}
 use Rattle.nor_device.specs.Nor.{IsPart}
 use Rattle.atomic_table.specs.Seated.{TableId}
 use Rattle.duo_machine.specs.declared.machine.Phase.{Phase}
-use Rattle.duo_machine.specs.declared.machine.Phase.TheVariants.{Resting, Running, Quiet}
+use Rattle.duo_machine.specs.declared.machine.Phase.TheVariants.{Running}
 use Rattle.duo_machine.specs.Machine.{first_machine}
 use Rattle.duo_machine.specs.Runs.{IsSafeRun, last_set}
 use Rattle.nor_device.specs.declared.step.Step.{Step}
 use Rattle.nor_device.specs.declared.nor.NorFault.{NorFault}
-use Rattle.nor_device.specs.Flash.{end_of}
 use Rattle.park_words.specs.declared.view.Entry.{Entry}
 use Rattle.park_words.specs.Views.{Seated}
 use Rattle.park_words.specs.Story.{CanBeMade, Saw, events_of, done_by}
@@ -167,14 +166,6 @@ module _ {S K : Type 0} where
   MayMake part grants moved base c share step =
       OnBase base (λ b. grants (moved_by moved (part b.duty c) (made share)) step)
 
--- the same core, with at most so many entries and bytes less of its room
-pub record Spends {S K : Type 0} (entries bytes : ℕ) (o o' : Own (Base S K) Did) : Type 0 where
-  pub table : o'.table ≡ o.table
-  pub core : o'.core ≡ o.core
-  pub base : o'.base ≡ o.base
-  pub room : (n m : ℕ) → HasRoom o.base o.core o.share (n + entries) (m + bytes)
-      → HasRoom o'.base o'.core o'.share n m
-
 -- a fetch that was answered
 pub record IsFetched {B : Type 0} (k at len : ℕ) (o o' : Own B Did) : Type 0 where
   pub bytes : List ℕ
@@ -232,23 +223,6 @@ abbrev pub IsFirst : {B : Type 0} → TableId → ℕ → B → Own B Did → Ty
 IsFirst words c base o =
     o
     ≡ record { table = words; core = c; base = Some base; regs = reset; share = []; seen = [] }
-
--- the core is one of these words, and has room for so many rounds of so many entries and bytes; so many bytes are
--- in its flash
-pub record IsReadyFor {S K : Type 0} (words : TableId) (c rounds entries bytes size : ℕ)
-    (o : Own (Base S K) Did) : Type 0 where
-  pub table : o.table ≡ words
-  pub core : o.core ≡ c
-  pub room : HasRoom o.base o.core o.share (rounds * entries) (rounds * bytes)
-  pub inside : IsInside o.base size
-
--- after some of so many rounds: the same core, with room for those to come
-pub record IsRound {S K : Type 0} (entries bytes times i : ℕ) (o o' : Own (Base S K) Did)
-    : Type 0 where
-  pub table : o'.table ≡ o.table
-  pub core : o'.core ≡ o.core
-  pub base : o'.base ≡ o.base
-  pub room : HasRoom o'.base o'.core o'.share ((times - i) * entries) ((times - i) * bytes)
 
 -- the base that a bus is opened with
 module _ {D S K : Type 0}

@@ -1,6 +1,5 @@
 -- What a core did in one turn: the event, and the items that it adds to its share.
 use Rattle.std.specs.Prelude.{◌≡◌, ℕ, ◌+◌, ◌-◌, ◌≤◌, Bool, true, false, List, [], ◌∷◌, drop, length, Option, Some, None, Result, Ok, Err, ◌⊎◌}
-use Rattle.core_state.specs.declared.registers.Record.{Record}
 use Rattle.core_state.specs.declared.registers.Regs.{Regs}
 use Rattle.duo_machine.specs.declared.events.Kind.{Kind}
 use Rattle.duo_machine.specs.declared.events.Kind.TheVariants as kinds
@@ -24,7 +23,6 @@ use Rattle.cache_gate.specs.declared.said.Said.{Said}
 use Rattle.cache_gate.specs.declared.said.Said.TheVariants.{Saved, Restored, Set, Noting, Fetched, Starting, Polled, Looked, Mapped, Freed}
 use Rattle.cache_gate.specs.Works.{Works, events_in}
 use Rattle.cache_gate.specs.Own.{Held, behind}
-use Rattle.core_state.specs.Registers.{masked}
 
 -- the last bytes
 abbrev pub last_of : ℕ → List ℕ → List ℕ

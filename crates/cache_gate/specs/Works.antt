@@ -1,5 +1,5 @@
 -- Which events of the machine a core's own work is: a fetch, a Set, the begin and the end of a step.
-use Rattle.std.specs.Prelude.{◌≡◌, ◌==◌, ℕ, List, [], ◌∷◌, ◌++◌, Option, Some, None, if◌then◌else◌}
+use Rattle.std.specs.Prelude.{◌≡◌, ℕ, List, [], ◌∷◌, ◌++◌, Option, Some, None}
 use Rattle.core_state.specs.declared.registers.Regs.{Regs}
 use Rattle.duo_machine.specs.declared.events.Kind.{Kind}
 use Rattle.duo_machine.specs.declared.events.Kind.TheVariants as kinds
@@ -8,7 +8,6 @@ use Rattle.park_words.specs.declared.view.Act.TheVariants.{Made, Took, Gave}
 use Rattle.park_words.specs.declared.view.Entry.{Entry}
 use Rattle.park_words.specs.declared.view.View.{View}
 use Rattle.park_words.specs.Story.{done_by}
-use Rattle.park_words.specs.Views.{Seated}
 use Rattle.bus_hub.specs.declared.did.Did.{Did}
 use Rattle.bus_hub.specs.declared.did.Did.TheVariants.{Opened, Closed, Broken, Fetched, Noted, Denied, Mapping, Unmapping, Missed, Masked}
 use Rattle.bus_hub.specs.declared.entry.Act.{Act as Noting}

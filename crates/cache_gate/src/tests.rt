@@ -5,7 +5,8 @@ ghost use Rattle.nor_device.specs.FlashSize.{IsFlashSize};
 ghost use Rattle.mmu_map.specs.Map.{IsFreeRun};
 ghost use Rattle.bus_hub.specs.Room.{room_in, empty_journal};
 ghost use Rattle.bus_hub.specs.Hub.{IsTold};
-ghost use Rattle.cache_gate.specs.Own.{Spends, HasRoom, IsInside, IsFirst, IsReadyFor};
+ghost use Rattle.cache_gate.specs.Own.{HasRoom, IsInside, IsFirst};
+ghost use Rattle.cache_gate.specs.Rounds.{Spends, IsReadyFor};
 
 use crate::{Core, Ended, Gates, open};
 use bus_hub::{Act, AnyDuty, Bus, Entry, Journal, Room};

@@ -90,6 +90,8 @@ fn park<R: Wait, D: Crash, K: Duty>(
 {
     if let Ok(()) = words.park(seat) {
         leave(rt, words, seat);
+        // Where both share a processor, the other core, which may be waiting to ask again, goes first.
+        thread::yield_now();
     }
 }
 

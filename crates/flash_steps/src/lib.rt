@@ -10,5 +10,5 @@ mod tests;
 
 pub use laws::{laws_of_erases, laws_of_open_parts, laws_of_parts, laws_of_writes};
 pub use refusal::PartNo;
-pub use rules::{check_erase, check_write};
+pub use rules::{check_erase, check_write, row_barred};
 pub use steps::next_program;

@@ -33,7 +33,7 @@ fn is_readonly(row: &Row) -> bool
 
 /// Why a partition may not be changed at all, if it may not.
 #[tactic(auto, unfolding(crate::specs::Rules::row_barred))]
-fn row_barred(row: &Row) -> Option<PartNo>
+pub fn row_barred(row: &Row) -> Option<PartNo>
     ensures exact { result ≡ row_barred row.now }
 {
     if is_dangerous(row) {

@@ -4,7 +4,7 @@ mod WalkText
 mod WalkEnds
 mod HeaderFacts
 mod PlanFacts
-mod WholeFacts
+pub mod WholeFacts
 mod Longer
 mod KeepFacts
 mod Noted

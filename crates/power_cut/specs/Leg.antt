@@ -63,10 +63,17 @@ abbrev pub LeavesBehind : Base (CutSetting (Unit {0})) AnyDuty → List Item →
 LeavesBehind base before flash =
     LeavesNow (state_behind base before).flash (step_of (state_behind base before).running) flash
 
+-- the device has the bytes, the setting and the number of steps of the other one
+pub record IsSameFlash (dev other : CutDevice Ram) : Type 0 where
+  pub bytes : dev.inner.bytes ≡ other.inner.bytes
+  pub setting : setting_of dev ≡ setting_of other
+  pub steps : dev.steps ≡ other.steps
+
 -- a leg: `drives` tells which shares the driver may have that ended so, `works` the same of the other
 -- core, `pages` with which map it begins, and `holds` what holds of the flash. One log of both
--- shares leads from the device at its begin to the one behind it, with this journal; and at every
--- moment, of every flash that a loss of power may leave, it holds.
+-- shares leads from the device at its begin to the flash behind it, with this journal; and at every
+-- moment, of every flash that a loss of power may leave, it holds. `back` is the device as the bus
+-- gave it back.
 module _ (drives works : Result (Unit {0}) NorFault → List Did → Type 0) (driver : ℕ)
     (pages : Map → Type 0) (holds : List ℕ → Type 0) where
   pub record IsLeg (old new : CutDevice Ram) (journal : Kept) : Type 0 where
@@ -80,7 +87,9 @@ module _ (drives works : Result (Unit {0}) NorFault → List Did → Type 0) (dr
     pub worked : Result (Unit {0}) NorFault
     pub driver_share : drives drove (share_of driver left right)
     pub worker_share : works worked (share_of (1 - driver) left right)
-    pub stands : LegStands (bus_behind new map journal) base left right
+    pub back : CutDevice Ram
+    pub same : IsSameFlash back new
+    pub stands : LegStands (bus_behind back map journal) base left right
     pub legal : IsLegal journal.entries
     pub moments : (before later : List Item) (flash : List ℕ)
         → stands.stood.log ≡ before ++ later → LeavesBehind base before flash → holds flash

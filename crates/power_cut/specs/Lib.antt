@@ -1,8 +1,11 @@
--- In reading order: the device, a leg of two cores, what holds of the flash meanwhile, what a runner
--- has to keep, a whole update, and what stands behind its data.
+-- In reading order: the device, how it refuses, a leg of two cores, what holds of the flash meanwhile,
+-- what a runner has to keep, a whole update, what stands behind its data, and the flash of an update
+-- in which nothing broke off.
 pub mod Device
+pub mod Refused
 pub mod Leg
 pub mod Update
 pub mod Kept
 pub mod Whole
 pub mod Behind
+pub mod Installed

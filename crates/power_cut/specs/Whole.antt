@@ -1,19 +1,26 @@
 -- A whole update: its legs, and how far it came.
-use Rattle.std.specs.Prelude.{◌≡◌, ◌≢◌, ℕ, Bool, true, false, ◌&&◌, List, [], ◌∷◌, ◌++◌, Option, Some, None, Result, IfOk}
+use Rattle.std.specs.Prelude.{◌≡◌, ◌≢◌, ℕ, Bool, true, false, ◌&&◌, List, [], ◌∷◌, ◌++◌, Option, Some, None, Result, Ok, Err, IfOk}
 use Rattle.std.specs.Borrow.{Bor}
 use Rattle.nor_device.specs.declared.nor.NorFault.{NorFault}
+use Rattle.nor_device.specs.declared.nor.NorFault.TheVariants.{Failed, Off}
+use Rattle.nor_device.specs.declared.step.Step.{Step}
+use Rattle.nor_device.specs.Flash.{after_steps}
 use Rattle.nor_device.specs.Ram.{Ram}
 use Rattle.crash_images.specs.Cut.{CutDevice, restarted}
+use Rattle.partition_table.specs.declared.app.App.TheVariants.{Ota}
 use Rattle.partition_table.specs.Layout.{Places}
 use Rattle.boot_select.specs.Boots.{entries_in, images_in}
 use Rattle.rollback.specs.declared.rewrite.Rewrite.{Rewrite}
 use Rattle.rollback.specs.Boot.{boot_writes}
+use Rattle.rollback.specs.Boots.{boots_in}
 use Rattle.image_verify.specs.Held.{held}
 use Rattle.bus_hub.specs.Room.{Kept}
+use Rattle.boot_run.specs.declared.aims.Aim.{Aim}
 use Rattle.boot_run.specs.declared.booted.Booted.{Booted}
 use Rattle.boot_run.specs.Booted.{IsBoot}
 use Rattle.boot_run.specs.Made.{AreMadeBy}
 use Rattle.boot_run.specs.Rewriting.{rewrites}
+use Rattle.boot_run.specs.Verified.{Starts}
 use Rattle.power_cut.specs.declared.legs.Leg.{Leg}
 use Rattle.power_cut.specs.declared.legs.LegEnd.{LegEnd}
 use Rattle.power_cut.specs.declared.legs.LegEnd.TheVariants.{Done, Device, Cut, FirstByte, Empty, Bad}
@@ -21,8 +28,24 @@ use Rattle.power_cut.specs.declared.legs.Ran.{Ran}
 use Rattle.power_cut.specs.declared.legs.Upto.{Upto}
 use Rattle.power_cut.specs.declared.legs.Upto.TheVariants.{Session, Boot, Confirm}
 use Rattle.power_cut.specs.declared.outcome.Trial.{Trial}
-use Rattle.power_cut.specs.Device.{IsRan, MayEnd, MayRefuse, MayTear, MustRefuse, setting_of}
+use Rattle.power_cut.specs.Device.{IsRan, IsReady, MayEnd, MayRefuse, MayTear, MustRefuse, setting_of}
+use Rattle.power_cut.specs.Update.{BootsEither}
 use Rattle.power_cut.specs.Kept.{MayConfirm}
+
+-- the steps of a boot of this flash
+abbrev pub boot_steps : Places → List ℕ → List Step
+boot_steps layout flash = rewrites layout.otadata (boot_writes (entries_in layout flash))
+
+-- how a boot that answered so ends as a leg whose last step has this number
+abbrev pub end_by : ℕ → Result (Option Booted) NorFault → LegEnd
+end_by now (Ok booted) = Done
+end_by now (Err Failed) = Device now
+end_by now (Err Off) = Cut now
+
+-- what such a boot has started
+abbrev pub started_by : Result (Option Booted) NorFault → Option Booted
+started_by (Ok booted) = booted
+started_by (Err why) = None
 
 -- the boot of an update: the steps of a boot of this flash were made, or the first of them, and the
 -- answer is what boots
@@ -30,8 +53,9 @@ pub record IsBootLeg (layout : Places) (old new : CutDevice Ram) (leg : Leg) : T
   pub ran : IsRan old new Done leg
   pub answer : Result (Option Booted) NorFault
   pub made : AreMadeBy MayEnd MayTear MayRefuse MustRefuse (setting_of old)
-      (rewrites layout.otadata (boot_writes (entries_in layout old.inner.bytes)))
-      old.steps new.steps (Some old.inner.bytes) (Some new.inner.bytes) answer
+      (boot_steps layout old.inner.bytes) old.steps new.steps (Some old.inner.bytes)
+      (Some new.inner.bytes) answer
+  pub end : leg.end ≡ end_by new.steps answer
   pub booted : IfOk answer (IsBoot layout (images_in held layout old.inner.bytes)
       (entries_in layout old.inner.bytes))
 
@@ -44,6 +68,15 @@ is_done (FirstByte byte) = false
 is_done Empty = false
 is_done (Bad why) = false
 
+-- what a boot leaves that has started an application: all steps are made, the device is ready, and
+-- the application is the one that boots of the flash before; or the leg was not made whole
+abbrev pub HasBooted : Places → CutDevice Ram → CutDevice Ram → Leg → Option Booted → Type 0
+HasBooted layout old new leg None = is_done leg.end ≡ false
+HasBooted layout old new leg (Some at) =
+    IsReady new × (is_done leg.end ≡ true)
+    × (new.inner.bytes ≡ after_steps old.inner.bytes (boot_steps layout old.inner.bytes))
+    × Starts (boots_in held layout old.inner.bytes) at.app at.info
+
 -- a boot is to follow the session, and a confirmation the boot
 abbrev pub wants_boot : Upto → Bool
 wants_boot Session = false
@@ -54,6 +87,12 @@ abbrev pub wants_confirm : Upto → Bool
 wants_confirm Session = false
 wants_confirm Boot = false
 wants_confirm Confirm = true
+
+-- what was booted, where it is to be confirmed
+abbrev pub confirm_of : Upto → Option Booted → Option Booted
+confirm_of Session booted = None
+confirm_of Boot booted = None
+confirm_of Confirm booted = booted
 
 -- the update ends with these legs, this journal of a confirmation, and the flash of this device
 pub record EndsWith (legs : List Leg) (confirm : Option Kept) (dev : CutDevice Ram) (t : Trial)
@@ -106,3 +145,26 @@ pub record IsTrial (writes : Ran → Type 0) (confirms : CutDevice Ram → Bor B
 abbrev pub AreDone : List Leg → Type 0
 AreDone [] = Unit {0}
 AreDone (leg ∷ legs) = (leg.end ≡ Done) × AreDone legs
+
+-- an update was closed with these parts of it: what boots of its flash is told
+pub record IsClosed (layout : Places) (legs : List Leg) (session : Kept) (confirm : Option Kept)
+    (dev : CutDevice Ram) (t : Trial) : Type 0 where
+  pub ends : EndsWith legs confirm dev t
+  pub session_is : t.session ≡ session
+  pub after : IsBoot layout (images_in held layout t.flash.items)
+      (entries_in layout t.flash.items) (Some t.after)
+
+-- the new application boots
+abbrev pub BootsNew : Places → Aim → List ℕ → List ℕ → Type 0
+BootsNew layout aim image left = boots_in held layout left ≡ Some (Ota aim.slot, image)
+
+-- an update and what it has left: one of both applications boots, and some in every case; and where
+-- its last leg is made whole and is no boot, the new one
+pub record IsOutcome (writes : Ran → Type 0)
+    (confirms : CutDevice Ram → Bor Booted → Bor Rewrite → Ran → Type 0) (layout : Places)
+    (first : List ℕ) (aim : Aim) (image : List ℕ) (upto : Upto) (t : Trial) : Type 0 where
+  pub trial : IsTrial writes confirms layout first upto t
+  pub boots : BootsEither layout first aim image t.flash.items
+  pub after : IsBoot layout (images_in held layout t.flash.items)
+      (entries_in layout t.flash.items) (Some t.after)
+  pub installed : upto ≢ Boot → AreDone t.legs.items → BootsNew layout aim image t.flash.items

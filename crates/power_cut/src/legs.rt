@@ -1,5 +1,8 @@
 //! The legs of an update: how far it is to go, and how each leg ended.
 
+ghost use Rattle.std.specs.Prelude.{◌≡◌};
+ghost use Rattle.power_cut.specs.Whole.{is_done, wants_boot, wants_confirm};
+
 use bus_hub::Journal;
 use crash_images::CutNor;
 use image_verify::BadImage;
@@ -16,10 +19,33 @@ pub enum Upto {
     Confirm,
 }
 
+impl Upto {
+    /// Whether a boot is to follow the session.
+    pub(crate) fn wants_boot(self) -> bool
+        ensures exact { result ≡ wants_boot self }
+    {
+        match self {
+            Upto::Session => false,
+            Upto::Boot | Upto::Confirm => true,
+        }
+    }
+
+    /// Whether a confirmation is to follow the boot.
+    pub(crate) fn wants_confirm(self) -> bool
+        ensures exact { result ≡ wants_confirm self }
+    {
+        match self {
+            Upto::Session | Upto::Boot => false,
+            Upto::Confirm => true,
+        }
+    }
+}
+
 /// How a leg ended.
-#[derive(Clone, Copy, Debug, PartialEq, Eq)]
+#[derive(Clone, Copy, Debug, Default, PartialEq, Eq)]
 pub enum LegEnd {
     /// It was made whole.
+    #[default]
     Done,
     /// The device failed in the step of this number.
     Device { step: u64 },
@@ -33,8 +59,24 @@ pub enum LegEnd {
     Bad(BadImage),
 }
 
+impl LegEnd {
+    /// Whether the leg was made whole.
+    pub fn is_done(self) -> bool
+        ensures exact { result ≡ is_done self }
+    {
+        match self {
+            LegEnd::Done => true,
+            LegEnd::Device { step: _ }
+            | LegEnd::Cut { step: _ }
+            | LegEnd::FirstByte { byte: _ }
+            | LegEnd::Empty
+            | LegEnd::Bad(_) => false,
+        }
+    }
+}
+
 /// One leg: the steps that were begun in it, and its end.
-#[derive(Clone, Copy, Debug, PartialEq, Eq)]
+#[derive(Clone, Copy, Debug, Default, PartialEq, Eq)]
 pub struct Leg {
     pub steps: u64,
     pub end: LegEnd,

@@ -2,11 +2,17 @@
 //! the flash that is left.
 #![tactic(auto)]
 
+mod behind;
+mod booting;
+mod closing;
 mod legs;
 mod outcome;
 mod run;
 mod runner;
+#[cfg(test)]
+mod tests;
 
+pub use behind::leg_behind;
 pub use legs::{Leg, LegEnd, Ran, Upto};
 pub use outcome::Trial;
 pub use run::trial;

@@ -1,14 +1,16 @@
-use Rattle.std.proofs.lemmas.Result.{err_from_is_err_and}
+use Rattle.std.proofs.lemmas.Result.{IfOk-weaker, err_from_is_err_and}
 use Rattle.boot_select.specs.Settled.{sectors}
 use Rattle.boot_select.specs.Boots.{entries_in}
 use Rattle.rollback.specs.Boot.{boot_writes}
 use Rattle.boot_run.specs.Made.{AreMadeBy}
 use Rattle.boot_run.specs.Rewriting.{rewrites}
 use Rattle.boot_run.specs.Booted.{CountsSteps}
-use Rattle.boot_run.proofs.MadeLemmas.{made_by, made_by_left, missed_none}
+use Rattle.boot_run.proofs.MadeLemmas.{made_by, made_by_left, made_by_ok, missed_none}
 use Rattle.boot_run.proofs.CrashLemmas.{told_boots}
 use Rattle.boot_run.proofs.WritesLemmas.{boot_are}
 use Rattle.boot_run.proofs.StartedLemmas.{any_entries, boot_by, by_short, on_err_any, read_boots, read_crash, read_steps, unread_crash}
+use Rattle.boot_run.specs.Paired.{BootSettles, IsPairIn}
+use Rattle.boot_run.proofs.ToldPairLemmas.{boot_leaves, boot_pairs, refused_pairs}
 use Rattle.boot_run.proofs.booting.boot_on.Goals as goal
 
 -- a read was refused before any step
@@ -95,3 +97,34 @@ returns-clause-still g c =
     (by_short boot_writes e0 e1 boot_by c.in_ok-first.ensures.stored.0
     c.in_ok-first.ensures.stored.1)
     (made_by_left n.may_end n.may_tear n.may_refuse n.must_refuse _ _ _ _ _ _ c.boot_by.result made)
+
+-- a pair stays
+pub returns-in_err-first-clause-pair : goal.returns-in_err-first-clause-pair
+returns-in_err-first-clause-pair g c =
+    let n = g.D.Nor in
+    let layout = c.args.layout.now in
+    let p = err_from_is_err_and c.from_residual.result c.from_residual.ensures.1 in
+    rw p.1 (refused_pairs layout (IsPairIn layout)
+    (λ flash. boot_writes (entries_in layout flash)) (BootSettles layout)
+    (n.bytes c.args.device.now) _ (boot_leaves layout _ c.requires.placed)
+    c.read_entries.ensures.same.bytes_same)
+
+pub returns-clause-pair : goal.returns-clause-pair
+returns-clause-pair g c =
+    let n = g.D.Nor in
+    let read = c.read_entries.ensures in
+    let it = c.boot_by.ensures in
+    let e0 = c.in_ok-first.first in
+    let e1 = c.in_ok-first.second in
+    let made = made_by n.may_end n.may_tear n.may_refuse n.must_refuse (n.setting c.args.device.now)
+    _ _ _ _ _ _ _ _
+    c.boot_by.result read.setting.setting_same read.setting.steps_same read.same.bytes_same it.made
+    it.missed in
+    boot_pairs c.args.layout.now (n.size c.args.device.now) e0 e1 (n.bytes c.args.device.now)
+    (n.bytes c.boot_by.new.device) c.boot_by.result c.requires.placed
+    (λ flash told. g.met.D.Nor.sized c.args.device.now flash told)
+    c.in_ok-first.ensures.first c.in_ok-first.ensures.second c.in_ok-first.ensures.stored.0
+    c.in_ok-first.ensures.stored.1
+    (made_by_left n.may_end n.may_tear n.may_refuse n.must_refuse _ _ _ _ _ _ c.boot_by.result made)
+    (IfOk-weaker c.boot_by.result _ _ (λ x all. all.bytes)
+    (made_by_ok n.may_end n.may_tear n.may_refuse n.must_refuse _ _ _ _ _ _ c.boot_by.result made))

@@ -12,6 +12,8 @@ use Rattle.boot_run.proofs.CrashLemmas.{told_boots}
 use Rattle.boot_run.proofs.StartedLemmas.{any_entries, by_short, on_err_any, read_crash, read_pair, unread_crash}
 use Rattle.boot_run.proofs.VerdictLemmas.{confirmation_by}
 use Rattle.boot_run.proofs.ConfirmedLemmas.{told_confirmed}
+use Rattle.boot_run.specs.Paired.{ConfirmSettles, IsActivePair}
+use Rattle.boot_run.proofs.ToldPairLemmas.{confirm_leaves, confirm_pairs, refused_pairs}
 use Rattle.boot_run.proofs.confirming.confirm_on.Goals as goal
 
 -- a read was refused before any step
@@ -119,3 +121,36 @@ returns-clause-boots g c =
     (IfOk-weaker c.confirm_by.result _ _ (λ x all. all.bytes)
     (made_by_ok n.may_end n.may_tear n.may_refuse n.must_refuse _ _ _ _ _ _ c.confirm_by.result
     made)) it.answers
+
+-- a pair stays
+pub returns-in_err-first-clause-pair : goal.returns-in_err-first-clause-pair
+returns-in_err-first-clause-pair g c =
+    let n = g.D.Nor in
+    let layout = c.args.layout.now in
+    let p = err_from_is_err_and c.from_residual.result c.from_residual.ensures.1 in
+    rw p.1 (refused_pairs layout (IsActivePair layout)
+    (λ flash. writes_of (confirmation (entries_in layout flash))) (ConfirmSettles layout)
+    (n.bytes c.args.device.now) _ (confirm_leaves layout _ c.requires.placed)
+    c.read_entries.ensures.same.bytes_same)
+
+pub returns-clause-pair : goal.returns-clause-pair
+returns-clause-pair g c =
+    let n = g.D.Nor in
+    let read = c.read_entries.ensures in
+    let it = c.confirm_by.ensures in
+    let e0 = c.in_ok-first.first in
+    let e1 = c.in_ok-first.second in
+    let made = made_by n.may_end n.may_tear n.may_refuse n.must_refuse (n.setting c.args.device.now)
+    _ _ _ _ _ _ _ _
+    c.confirm_by.result read.setting.setting_same read.setting.steps_same read.same.bytes_same
+    it.made it.missed in
+    confirm_pairs c.args.layout.now (n.size c.args.device.now) e0 e1 (n.bytes c.args.device.now)
+    (n.bytes c.confirm_by.new.device) c.confirm_by.result c.requires.placed
+    (λ flash told. g.met.D.Nor.sized c.args.device.now flash told)
+    c.in_ok-first.ensures.first c.in_ok-first.ensures.second c.in_ok-first.ensures.stored.0
+    c.in_ok-first.ensures.stored.1
+    (made_by_left n.may_end n.may_tear n.may_refuse n.must_refuse _ _ _ _ _ _ c.confirm_by.result
+    made)
+    (IfOk-weaker c.confirm_by.result _ _ (λ x all. all.bytes)
+    (made_by_ok n.may_end n.may_tear n.may_refuse n.must_refuse _ _ _ _ _ _ c.confirm_by.result
+    made))

@@ -1,5 +1,4 @@
-use Rattle.std.proofs.Common.{ap, refl, [], ◌∷◌}
-use Rattle.bus_hub.specs.declared.did.Did.TheVariants.{Mapping}
+use Rattle.std.proofs.Common.{ap, refl}
 use Rattle.bus_hub.specs.Hub.{Hub}
 use Rattle.cache_gate.proofs.Taken.{keeps_cores, fits_same}
 use Rattle.cache_gate.proofs.turns.map.Goals as goal

@@ -1,0 +1,11 @@
+use Rattle.flash_ops.specs.Told.{fault_of}
+use Rattle.duo_run.proofs.WorkLemmas.{worked_kept}
+use Rattle.duo_run.proofs.worker.run_worker.Goals as goal
+
+-- from rest to rest it only worked
+pub returns : goal.returns
+returns g c =
+    rw c.ended.ensures
+    (worked_kept c.args.table.now 1 c.args.script.now (fault_of c.work-core.result.1) c.args.ended
+    c.start-core.result c.work-core.result.0 c.rest.result
+    (rw c.core.ensures at c.start-core.ensures) c.work-core.ensures c.rest.ensures)

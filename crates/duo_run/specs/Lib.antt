@@ -1,0 +1,5 @@
+pub mod Worker
+pub mod Room
+pub mod Works
+pub mod Ends
+pub mod Fresh

@@ -1,0 +1,7 @@
+-- Crates above cite these lemmas.
+pub mod Runs
+pub mod Counts
+pub mod Changes
+pub mod Can
+pub mod Pieces
+pub mod Bytes

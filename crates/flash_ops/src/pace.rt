@@ -1,0 +1,36 @@
+//! A pace that is told how far both cores are, and what a core carries along for it.
+
+/// A moment of a leg: before or behind the driver's n-th quiet period that has a step, or before or
+/// behind the worker's k-th action. Both are counted from 1.
+#[derive(Clone, Copy, Debug, PartialEq, Eq)]
+pub enum Point {
+    DriverOp(u32),
+    DriverOpDone(u32),
+    WorkerAct(u32),
+    WorkerActDone(u32),
+}
+
+/// Is called at each moment. It answers nothing and always returns.
+///
+/// A core that is in `at` serves no gate, so a pace must not wait there for the other core's quiet
+/// period to end.
+pub trait Pace {
+    fn at(&self, point: Point);
+}
+
+/// Returns at once.
+#[derive(Clone, Copy, Debug, Drop)]
+pub struct NoPace;
+
+impl Pace for NoPace {
+    fn at(&self, _point: Point) {}
+}
+
+/// What a core carries along through its quiet periods: the pace; the address of 4 bytes at which it
+/// looks behind each period, if any; and how many periods it has begun that have a step.
+#[derive(Drop)]
+pub struct Beat<'a, P: Pace> {
+    pub pace: &'a P,
+    pub probe: Option<u32>,
+    pub ops: u32,
+}

@@ -1,0 +1,32 @@
+-- The erase and the program are the steps of the rewrite, one behind the other.
+use Rattle.std.proofs.Common.{◌+◌, ◌*◌, ap, ◌∙◌}
+use Rattle.ota_session.proofs.EntryLemmas.{can_erase, can_program, has_rewritten, not_erased}
+use Rattle.ota_session.proofs.entries.rewrite_entry.Goals as goal
+
+pub erase-core-requires-clause-can : goal.erase-core-requires-clause-can
+erase-core-requires-clause-can g c =
+    can_erase c.args.beat.now.probe c.args.otadata c.args.change.now c.args.core _ c.put.new.out
+    (ap (λ n. c.args.otadata + 4096 * n) c.from.ensures) c.put.ensures.bytes c.requires.aligned
+    c.put.array_long c.requires.may c.requires.room c.requires.look
+
+pub returns-in-Err-clause-ran : goal.returns-in-Err-clause-ran
+returns-in-Err-clause-ran g c =
+    not_erased c.args.beat.now.probe c.args.otadata c.args.change.now c.args.core _ c.put.new.out
+    (ap (λ n. c.args.otadata + 4096 * n) c.from.ensures) c.put.ensures.bytes
+    c.erase-core.result.0 c.erase-core.result.1 c.in-Err.no c.in-Err.is c.erase-core.ensures.ran
+
+pub write-requires-clause-can : goal.write-requires-clause-can
+write-requires-clause-can g c =
+    can_program c.args.beat.now.probe c.args.otadata c.args.change.now c.args.core _ c.put.new.out
+    (ap (λ n. c.args.otadata + 4096 * n) c.from.ensures) c.put.ensures.bytes
+    c.erase-core.result.0 c.erase-core.new.beat.probe c.erase-core.result.1 c.in_default.field-0
+    c.requires.aligned c.put.array_long c.requires.may c.requires.room c.requires.look
+    c.erase-core.ensures.probe c.in_default.is c.erase-core.ensures.ran
+
+pub returns-clause-ran : goal.returns-clause-ran
+returns-clause-ran g c =
+    has_rewritten c.args.beat.now.probe c.args.otadata c.args.change.now c.args.core _ c.put.new.out
+    (ap (λ n. c.args.otadata + 4096 * n) c.from.ensures) c.put.ensures.bytes
+    c.erase-core.result.0 c.write.result.0 c.erase-core.new.beat.probe c.erase-core.result.1
+    c.write.result.1 c.in_default.field-0 c.erase-core.ensures.probe c.in_default.is
+    c.erase-core.ensures.ran c.write.ensures.ran

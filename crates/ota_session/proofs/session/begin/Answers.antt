@@ -1,0 +1,37 @@
+-- What the erases ask, and what they leave.
+use Rattle.ota_session.proofs.StageLemmas.{can_begin, few_sectors, has_begun, has_slot, not_begun}
+use Rattle.ota_session.proofs.session.begin.Goals as goal
+
+-- there is a slot
+pub place-row-requires : goal.place-row-requires
+place-row-requires g c = record {
+  found = has_slot c.args.layout.now c.args.aim.now c.args.core c.requires.session;
+}
+
+pub sectors_of-requires : goal.sectors_of-requires
+sectors_of-requires g c = record {
+  small = few_sectors c.args.layout.now c.args.aim.now c.place-row.result c.place-row.ensures.exact
+      c.args.beat.now.probe c.args.core c.requires.session;
+}
+
+-- the erases are the driver's first steps, in its slot
+pub erase-core-requires : goal.erase-core-requires
+erase-core-requires g c =
+    let can = can_begin c.args.layout.now c.args.aim.now c.place-row.result c.place-row.ensures.exact
+    c.args.beat.now.probe c.args.core c.requires.session c.sectors_of.result
+    c.sectors_of.ensures.exact c.requires.room c.requires.look in
+    record { inside = can.inside; small = can.small; aligned = can.aligned; can = can.can }
+
+pub returns-in-Ok-clause-ok : goal.returns-in-Ok-clause-ok
+returns-in-Ok-clause-ok g c =
+    has_begun c.args.layout.now c.args.aim.now c.place-row.result c.place-row.ensures.exact
+    c.args.beat.now.probe c.args.core c.requires.session c.sectors_of.result
+    c.erase-core.result.0 c.erase-core.result.1 c.in-Ok.field-0 c.of.result
+    c.sectors_of.ensures.exact c.erase-core.ensures.ran c.in-Ok.is c.of.ensures.exact
+
+pub returns-in-Err-clause-err : goal.returns-in-Err-clause-err
+returns-in-Err-clause-err g c =
+    not_begun c.args.layout.now c.args.aim.now c.place-row.result c.place-row.ensures.exact
+    c.args.beat.now.probe c.args.core c.requires.session c.sectors_of.result
+    c.erase-core.result.0 c.erase-core.result.1 c.in-Err.no c.sectors_of.ensures.exact
+    c.erase-core.ensures.ran c.in-Err.is
