@@ -5,7 +5,7 @@ use Rattle.std.proofs.lemmas.Bool.Decides.{nat_tests}
 use Rattle.nor_device.specs.declared.nor.NorFault.{NorFault}
 use Rattle.nor_device.specs.declared.nor.NorFault.TheVariants as faults
 use Rattle.nor_device.specs.FlashSize.{IsFlashSize, is_flash_size}
-use Rattle.duo_run.specs.Legs.{HasTable}
+use Rattle.duo_run.specs.Both.{HasTable}
 use Rattle.partition_table.specs.declared.app.App.{App}
 use Rattle.partition_table.specs.declared.app.App.TheVariants.{Ota}
 use Rattle.partition_table.specs.declared.bad.TableBad.{TableBad}

@@ -29,7 +29,8 @@ use Rattle.power_cut.specs.Kept.{KeepsConfirm, KeepsSession, MayConfirm}
 use Rattle.power_cut.specs.Update.{BootsEither, Opens, bytes_or_none, image_of, session_end, slot_size}
 use Rattle.power_cut.specs.Whole.{AreDone, BootsNew, IsTrial}
 use Rattle.power_cut.proofs.LegLemmas.{confirm_keeps, session_keeps}
-use Rattle.duo_run.specs.Legs.{ConfirmShare, HasTable, IsDuoConfirm, IsDuoSession, MayAffirm, SessionShare, ShowsApp}
+use Rattle.duo_run.specs.Both.{HasTable}
+use Rattle.duo_run.specs.Legs.{ConfirmShare, IsDuoConfirm, IsDuoSession, MayAffirm, SessionShare, ShowsApp}
 use Rattle.duo_run.specs.Worker.{WorkerShare}
 use Rattle.flash_cli.specs.declared.opening.Opening.{Opening as CodeOpening}
 use Rattle.flash_cli.specs.declared.update_words.Options.{Options}

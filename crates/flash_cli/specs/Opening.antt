@@ -28,7 +28,7 @@ use Rattle.boot_run.specs.declared.aims.Aim.{Aim}
 use Rattle.boot_run.specs.declared.aims.AimNo.{AimNo}
 use Rattle.boot_run.specs.declared.aims.AimNo.TheVariants as no
 use Rattle.boot_run.specs.Aim.{IsAimed, running_of}
-use Rattle.duo_run.specs.Legs.{HasTable}
+use Rattle.duo_run.specs.Both.{HasTable}
 use Rattle.flash_text.specs.declared.refusal.Refusal.{Refusal}
 use Rattle.flash_text.specs.declared.refusal.Refusal.TheVariants.{FlashSize, Table, Script, NotSettled, Conflict, SlotFlags, SeqSpent, TooLarge}
 use Rattle.flash_cli.specs.declared.error.CommandError.{CommandError}
