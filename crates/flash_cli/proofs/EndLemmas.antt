@@ -30,7 +30,7 @@ reached_end k now broken whole reached =
     let yes : nat_le k now ≡ true = grind (arith, nat_tests) in rw yes refl
 
 -- where neither was begun, a whole end
-unbroken_end : (cut fail : Option ℕ) (now : ℕ) (whole : LegEnd) → IsAhead cut now
+pub unbroken_end : (cut fail : Option ℕ) (now : ℕ) (whole : LegEnd) → IsAhead cut now
     → IsAhead fail now → chosen_end cut fail now whole ≡ whole
 unbroken_end (Some k) fail now whole cut_ahead fail_ahead = ahead_end k now (Cut k) whole cut_ahead
 unbroken_end None (Some k) now whole cut_ahead fail_ahead =

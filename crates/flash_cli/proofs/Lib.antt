@@ -17,3 +17,4 @@ pub mod ServedLemmas
 pub mod OpeningLemmas
 pub mod TrialLemmas
 pub mod RunLemmas
+pub mod UpdateLaws

@@ -23,3 +23,4 @@ pub mod Report
 pub mod Updating
 pub mod Served
 pub mod Laws
+pub mod UpdateLaws
