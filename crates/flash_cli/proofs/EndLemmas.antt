@@ -162,7 +162,7 @@ behind_session o driver cut fail whole false upto s dev t one done led ends =
 behind_session o driver cut fail whole true upto s dev t one done led ends =
     let sound = done refl in
     let next = leads cut fail s.steps (restarted dev) ends.new Done ends.leg one
-        (again cut fail s.steps whole dev s.end led sound) ends.booted.ran in
+    (again cut fail s.steps whole dev s.end led sound) ends.booted.ran in
     rw ((led.ahead sound).1.1)
     (behind_boot o driver cut fail _ s ends.leg ends.new t one
     (λ both. done_is ends.leg.end (second_true (wants_confirm upto) (is_done ends.leg.end) both)) next

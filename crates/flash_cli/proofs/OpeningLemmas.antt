@@ -416,7 +416,7 @@ pub begins_so : (flash image : List ℕ) (options : Options) (o : CodeOpening) (
 begins_so flash image options o long size found laid is aims fresh =
     let here = fresh.bytes in
     let aimed : AimsIn flash o.layout (length image) o.aim =
-        subst (λ n. AimsIn flash o.layout n o.aim) is aims in
+    subst (λ n. AimsIn flash o.layout n o.aim) is aims in
     record {
       given = may_begin flash image o.script o.table o.layout o.aim (sym found) (sym laid) aimed
           ∙ ap (λ bytes. Ok (record {

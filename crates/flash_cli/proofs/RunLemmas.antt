@@ -49,9 +49,9 @@ opens_by flash layout aim new laid bytes aims =
     let opening = table_opens flash layout aim new laid bytes aims in
     let is = opening.1 in
     let found = boots_holds layout (images_in held layout flash) (entries_in layout flash)
-        aim.running is.begins.image is.begins.settled.booted in
+    aim.running is.begins.image is.begins.settled.booted in
     let old : opening.0 ≡ image_of layout flash aim.running =
-        sym is.old_is ∙ sym (ap bytes_or_none found) in
+    sym is.old_is ∙ sym (ap bytes_or_none found) in
     subst (λ image. IsOpening layout flash aim image new) old is
 
 -- a layout by the table of a flash is that of the flash

@@ -31,6 +31,8 @@ mod table_show;
 mod tests;
 mod text;
 mod top;
+#[cfg(test)]
+mod update_tests;
 mod update_words;
 mod updating;
 mod verdict;

@@ -95,7 +95,7 @@ fn run_legs<P: Pace + Sync, R: Threads + Wait + Sync>(
             → layout_of duo.entry.now.table.now ≡ Ok layout
             → IsDuoSession duo.entry.now.table.now duo.entry.now.script.now
             duo.entry.now.driver layout aim.now image.now dev ran) }
-        { duo.session(rt, alloc, dev, aim, image) };
+    { duo.session(rt, alloc, dev, aim, image) };
     let confirm = |dev: CutNor<RamNor>, at: &Booted, write: &Rewrite| -> Result<Ran, Memory>
         requires core { duo.now.driver < 2 }
         requires layout { (layout : Places) × (layout_of duo.now.table.now ≡ Ok layout)
@@ -104,6 +104,6 @@ fn run_legs<P: Pace + Sync, R: Threads + Wait + Sync>(
             → layout_of duo.entry.now.table.now ≡ Ok layout
             → IsDuoConfirm duo.entry.now.table.now duo.entry.now.script.now
             duo.entry.now.driver layout at.now write.now dev ran) }
-        { duo.confirm(rt, alloc, dev, at, write) };
+    { duo.confirm(rt, alloc, dev, at, write) };
     trial(device, layout, aim, image, upto, &Legs { session, confirm })
 }

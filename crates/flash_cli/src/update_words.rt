@@ -147,13 +147,7 @@ fn step_by(value: Option<&str>) -> Option<Option<u64>>
         None => Some(None),
         Some(word) => match read_number(word.as_bytes()) {
             None => None,
-            Some(step) => {
-                if step == 0 {
-                    None
-                } else {
-                    Some(Some(step))
-                }
-            }
+            Some(step) => { if step == 0 { None } else { Some(Some(step)) } }
         },
     }
 }

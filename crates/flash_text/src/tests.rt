@@ -132,9 +132,7 @@ fn of_updates<'a>() -> [(Refusal, &'a str); 11] {
             "slot flags ota_15 3",
         ),
         (
-            Refusal::SeqSpent {
-                seq: 4_294_967_294,
-            },
+            Refusal::SeqSpent { seq: 4_294_967_294 },
             "seq spent 4294967294",
         ),
         (
