@@ -29,7 +29,8 @@ update_row = record {
   kind = UpdateKind;
   word = codes "update";
   names = 4;
-  options = codes "--driver" ∷ codes "--cut" ∷ codes "--tear" ∷ codes "--fail" ∷ codes "--upto" ∷ [];
+  options = codes "--driver" ∷ codes "--cut" ∷ codes "--tear" ∷ codes "--fail" ∷ codes "--upto"
+      ∷ [];
   cores = true;
 }
 
@@ -58,8 +59,8 @@ shown_row row = record {
   cores = row.cores;
 }
 
--- a command that starts no cores, with the names of its files, and with the number of bytes that its
--- flash is to have
+-- a command that starts no cores, with the names of its files, and with the number of bytes that
+-- its flash is to have
 pub data Command : Type 0 where
   Choose : List ℕ → Command
   Boot : List ℕ → List ℕ → Command

@@ -38,8 +38,8 @@ use Rattle.flash_cli.specs.declared.opening.Opening.{Opening as CodeOpening}
 use Rattle.flash_cli.specs.declared.update_words.Options.{Options}
 use Rattle.flash_cli.specs.Laid.{layout_or_refusal}
 
--- what an update begins with: the bytes of its flash and of its image, the actions of its script, and
--- the rows and the layout of the flash's table
+-- what an update begins with: the bytes of its flash and of its image, the actions of its script,
+-- and the rows and the layout of the flash's table
 pub record Opening : Type 0 where
   pub flash : List ℕ
   pub image : List ℕ
@@ -52,8 +52,8 @@ abbrev pub on_ok : {A B : Type 0} → Result A Refusal → (A → Result B Refus
 on_ok (Ok value) next = next value
 on_ok (Err why) next = Err why
 
--- the refusal of a script. That memory ran out is none of a script's, and what stands there plays no
--- part
+-- the refusal of a script. That memory ran out is none of a script's, and what stands there plays
+-- no part
 abbrev pub script_refusal : ScriptNo → Refusal
 script_refusal (no_script.Bad line reason) = Script line reason
 script_refusal no_script.Memory = Script 0 why.Word
@@ -107,7 +107,8 @@ next_for long row (Ok next) =
     if nat_lt row.size long then Err (TooLarge long row.size) else Ok next
 
 -- the slot has a partition, which is neither encrypted nor readonly, and so on
-abbrev pub next_in_slot : ℕ → ℕ → Option Row → Result NextEntry NoSequence → Result NextEntry Refusal
+abbrev pub next_in_slot : ℕ → ℕ → Option Row → Result NextEntry NoSequence
+    → Result NextEntry Refusal
 next_in_slot slot long None next = Err (Conflict slot)
 next_in_slot slot long (Some row) next =
     if not (row.flags % 4 == 0) then Err (SlotFlags slot row.flags) else next_for long row next
@@ -143,8 +144,8 @@ opening_by flash image script rows layout =
       layout = layout;
     }))
 
--- what an update of a flash by an image and a script begins with, or the first reason why it may not
--- begin: the size of the flash, its table, its layout, what runs and what is written
+-- what an update of a flash by an image and a script begins with, or the first reason why it may
+-- not begin: the size of the flash, its table, its layout, what runs and what is written
 unfoldable pub opening_from : List ℕ → List ℕ → List Action → Result Opening Refusal
 opening_from flash image script =
     on_ok (rows_in flash) (λ rows.
@@ -196,8 +197,8 @@ pub record IsBegun (image : List ℕ) (options : Options) (o : CodeOpening) : Ty
   pub fresh : IsFresh options o.device.inner.bytes o.device
 
 -- an update of this flash, image and script begins so
-pub record BeginsSo (flash image : List ℕ) (script : List Action) (options : Options) (o : CodeOpening)
-    : Type 0 where
+pub record BeginsSo (flash image : List ℕ) (script : List Action) (options : Options)
+    (o : CodeOpening) : Type 0 where
   pub given : opening_from flash image script ≡ Ok (opening_with image o)
   pub begun : IsBegun image options o
 
@@ -207,9 +208,11 @@ Begins flash image script options (Ok o) = BeginsSo flash image script options o
 Begins flash image script options (Err reason) = opening_from flash image script ≡ Err reason
 
 -- the same, as an error of the command
-abbrev pub OpensBy : List ℕ → List ℕ → List Action → Options → Result CodeOpening CommandError → Type 0
+abbrev pub OpensBy : List ℕ → List ℕ → List Action → Options → Result CodeOpening CommandError
+    → Type 0
 OpensBy flash image script options (Ok o) = BeginsSo flash image script options o
-OpensBy flash image script options (Err (Refused reason)) = opening_from flash image script ≡ Err reason
+OpensBy flash image script options (Err (Refused reason)) =
+    opening_from flash image script ≡ Err reason
 OpensBy flash image script options (Err (Absent file name)) = ⊥
 OpensBy flash image script options (Err (Failed failure)) = ⊥
 

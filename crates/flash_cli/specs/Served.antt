@@ -31,8 +31,8 @@ IsUpdateWork (PowerCut step) = Unit {0}
 IsUpdateWork Memory = ⊥
 IsUpdateWork SinkFault = ⊥
 
--- what a push of lines came to: the status of the work and all of them; or the sink failed or memory
--- ran out, and a first part of them
+-- what a push of lines came to: the status of the work and all of them; or the sink failed or
+-- memory ran out, and a first part of them
 abbrev pub IsPushed : List ℕ → Status → Status → Option (List ℕ) → Option (List ℕ) → Type 0
 IsPushed text work status before after =
     ((status ≡ work) × TellsAll before text after)
@@ -45,7 +45,8 @@ IsSilent status before after = (status ≡ Memory) × (after ≡ before)
 -- what the line of a refusal came to
 abbrev pub IsRefusal : List ℕ → Refusal → Status → Option (List ℕ) → Option (List ℕ) → Type 0
 IsRefusal name why status before after =
-    IsSilent status before after ⊎ IsPushed (refusal_line name why) (Refused why) status before after
+    IsSilent status before after
+    ⊎ IsPushed (refusal_line name why) (Refused why) status before after
 
 -- what an update that was not made came to
 abbrev pub Refuses : CommandError → Status → Option (List ℕ) → Option (List ℕ) → Type 0
@@ -56,7 +57,8 @@ Refuses (Failed Store) status before after = (status ≡ StoreFault) × (after �
 Refuses (Failed OutOfMemory) status before after = (status ≡ Memory) × (after ≡ before)
 
 -- the flash was not put: the store failed, or memory ran out
-abbrev pub IsUnput : Status → Option Files → Option Files → Option (List ℕ) → Option (List ℕ) → Type 0
+abbrev pub IsUnput : Status → Option Files → Option Files → Option (List ℕ) → Option (List ℕ)
+    → Type 0
 IsUnput status told put before after =
     ((status ≡ StoreFault) ⊎ (status ≡ Memory)) × (put ≡ told) × (after ≡ before)
 

@@ -55,8 +55,8 @@ chosen_end (Some k) fail steps whole = if nat_le k steps then Cut k else whole
 chosen_end None (Some k) steps whole = if nat_le k steps then Device k else whole
 chosen_end None None steps whole = whole
 
--- an update with these options that began so: the session, the boot and the confirmation of a device
--- with the flash, as far as they go, and what boots of the flash that they left
+-- an update with these options that began so: the session, the boot and the confirmation of a
+-- device with the flash, as far as they go, and what boots of the flash that they left
 pub record IsUpdate (options : Options) (o : Opening) (t : Trial) : Type 0 where
   pub aim : Aim
   pub aims : AimsIn o.flash o.layout (length o.image) aim

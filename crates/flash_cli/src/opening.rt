@@ -146,8 +146,8 @@ fn layout_by(table: &Table, size: usize) -> Result<Layout, Refusal>
     }
 }
 
-/// The device over the bytes of a flash, which are not copied, with the chosen step. It is idle, and
-/// made no step.
+/// The device over the bytes of a flash, which are not copied, with the chosen step. It is idle,
+/// and made no step.
 fn chosen_device(flash: Vec<u8>, options: &Options) -> CutNor<RamNor>
     requires size { IsFlashSize (length flash.items) }
     requires options { AreOptions options.now }

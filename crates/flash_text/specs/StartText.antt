@@ -31,7 +31,8 @@ script_text line reason =
 
 -- that an entry waits, with its state
 unfoldable pub waiting_text : ℕ → ℕ → List ℕ
-waiting_text entry state = number_behind (codes "entry ") entry ++ codes " state " ++ state_text state
+waiting_text entry state =
+    number_behind (codes "entry ") entry ++ codes " state " ++ state_text state
 
 -- words and an application
 unfoldable pub app_behind : List ℕ → App → List ℕ
@@ -62,4 +63,5 @@ conflict_text slot = app_behind (codes "conflict ") (Ota slot)
 
 -- that a slot may not be written, with its flags
 unfoldable pub slot_flags_text : ℕ → ℕ → List ℕ
-slot_flags_text slot flags = app_behind (codes "slot flags ") (Ota slot) ++ codes " " ++ decimal flags
+slot_flags_text slot flags =
+    app_behind (codes "slot flags ") (Ota slot) ++ codes " " ++ decimal flags
