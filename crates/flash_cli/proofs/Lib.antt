@@ -11,3 +11,10 @@ pub mod MadeLaws
 pub mod DeviceLemmas
 pub mod BootLemmas
 pub mod VerdictLemmas
+pub mod ReadableLemmas
+pub mod EndLemmas
+pub mod ServedLemmas
+pub mod OpeningLemmas
+pub mod TrialLemmas
+pub mod RunLemmas
+pub mod UpdateLaws

@@ -5,7 +5,7 @@ use Rattle.std.specs.declared.alloc.Global.{Global}
 use Rattle.pipe_ends.specs.Number.{number_of_text}
 use Rattle.flash_cli.specs.declared.command.Row.{Row as CodeRow}
 use Rattle.flash_cli.specs.declared.command.Kind.{Kind}
-use Rattle.flash_cli.specs.declared.command.Kind.TheVariants.{Choose as ChooseKind, Boot as BootKind, Confirm as ConfirmKind, Reject as RejectKind, ImageMake as ImageMakeKind, ImageCheck as ImageCheckKind, TableMake as TableMakeKind, TableShow as TableShowKind, FlashMake as FlashMakeKind}
+use Rattle.flash_cli.specs.declared.command.Kind.TheVariants.{Choose as ChooseKind, Boot as BootKind, Confirm as ConfirmKind, Reject as RejectKind, ImageMake as ImageMakeKind, ImageCheck as ImageCheckKind, TableMake as TableMakeKind, TableShow as TableShowKind, FlashMake as FlashMakeKind, Update as UpdateKind}
 use Rattle.flash_cli.specs.declared.command.Command.{Command as Parsed}
 use Rattle.flash_cli.specs.declared.command.Command.TheVariants.{Choose as ParsedChoose, Boot as ParsedBoot, Confirm as ParsedConfirm, Reject as ParsedReject, ImageMake as ParsedImageMake, ImageCheck as ParsedImageCheck, TableMake as ParsedTableMake, TableShow as ParsedTableShow, FlashMake as ParsedFlashMake}
 
@@ -23,6 +23,17 @@ abbrev pub plain_row : Kind → List ℕ → ℕ → Row
 plain_row kind word names =
     record { kind = kind; word = word; names = names; options = []; cores = false }
 
+-- the row of `update`
+abbrev pub update_row : Row
+update_row = record {
+  kind = UpdateKind;
+  word = codes "update";
+  names = 4;
+  options = codes "--driver" ∷ codes "--cut" ∷ codes "--tear" ∷ codes "--fail" ∷ codes "--upto"
+      ∷ [];
+  cores = true;
+}
+
 -- the table of commands, in the order of the usage line
 abbrev pub rows : List Row
 rows =
@@ -35,6 +46,7 @@ rows =
     ∷ plain_row TableMakeKind (codes "table-make") 2
     ∷ plain_row TableShowKind (codes "table-show") 1
     ∷ plain_row FlashMakeKind (codes "flash-make") 4
+    ∷ update_row
     ∷ []
 
 -- a row of the code
@@ -47,7 +59,8 @@ shown_row row = record {
   cores = row.cores;
 }
 
--- a command, with the names of its files, and with the number of bytes that its flash is to have
+-- a command that starts no cores, with the names of its files, and with the number of bytes that
+-- its flash is to have
 pub data Command : Type 0 where
   Choose : List ℕ → Command
   Boot : List ℕ → List ℕ → Command
@@ -59,8 +72,8 @@ pub data Command : Type 0 where
   TableShow : List ℕ → Command
   FlashMake : List ℕ → List ℕ → ℕ → List ℕ → Command
 
--- the command of this kind with these names, where they are as many as it has, and what is to be a
--- number is one
+-- the command of this kind with these names, where it starts no cores, they are as many as it has,
+-- and what is to be a number is one
 abbrev pub made : Kind → List (List ℕ) → Option Command
 made ChooseKind (flash ∷ []) = Some (Choose flash)
 made ChooseKind _ = None
@@ -81,6 +94,7 @@ made TableShowKind _ = None
 made FlashMakeKind (table ∷ image ∷ size ∷ out ∷ []) =
     option_map (λ bytes. FlashMake table image bytes out) (number_of_text size)
 made FlashMakeKind _ = None
+made UpdateKind _ = None
 
 -- a command without the borrow of its words
 abbrev pub shown : Parsed → Command

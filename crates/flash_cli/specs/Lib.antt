@@ -1,6 +1,9 @@
 pub mod Command
+pub mod UpdateWords
 pub mod Status
 pub mod Laid
+pub mod Opening
+pub mod Legs
 pub mod Choice
 pub mod Text
 pub mod Answer
@@ -17,4 +20,7 @@ pub mod TableMake
 pub mod TableShow
 pub mod FlashMake
 pub mod Report
+pub mod Updating
+pub mod Served
 pub mod Laws
+pub mod UpdateLaws

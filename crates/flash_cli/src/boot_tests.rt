@@ -7,7 +7,7 @@ use std::alloc::{AllocError, Global};
 use std::test::Fail;
 
 /// Where the OTA data, the second sector of them, factory and slot 0 begin.
-const OTADATA: usize = 0xD000;
+pub(crate) const OTADATA: usize = 0xD000;
 
 const SECOND_SECTOR: usize = 0xE000;
 
@@ -16,7 +16,7 @@ const FACTORY: usize = 0x10000;
 const SLOT: usize = 0x110000;
 
 /// Where an entry has its state.
-const STATE: usize = 24;
+pub(crate) const STATE: usize = 24;
 
 /// An entry of sequence 1 in this state; the CRC is that of Python's `zlib.crc32`, inverted at the
 /// start.
@@ -28,7 +28,7 @@ fn first_entry(state: u8) -> [u8; 32] {
 }
 
 /// Puts a flash: the one of this name with other bytes.
-fn put_changed(
+pub(crate) fn put_changed(
     alloc: Global,
     store: &mut MemStore,
     from: &str,
@@ -44,7 +44,7 @@ fn put_changed(
 }
 
 /// A store with the flash F0 of a factory, and with flashes after an update of its slot 0.
-fn store_of_flashes(alloc: Global) -> Result<MemStore, Fail> {
+pub(crate) fn store_of_flashes(alloc: Global) -> Result<MemStore, Fail> {
     let mut store = store_of_all(alloc)?;
     let made = first_other(
         alloc,
@@ -89,7 +89,7 @@ fn store_of_flashes(alloc: Global) -> Result<MemStore, Fail> {
 }
 
 /// A call: its words, the code of its status, and what it prints.
-type Call<'a> = (&'a [&'a str], u8, &'a str);
+pub(crate) type Call<'a> = (&'a [&'a str], u8, &'a str);
 
 /// The lines of flashes whose first entry has sequence 1, and this state.
 const NEW_LINES: &str = "entry 0 seq 1 state NEW valid
@@ -166,7 +166,7 @@ fn left_flashes<'a>() -> [Left<'a>; 7] {
 }
 
 /// Whether a call left this flash.
-fn is_left(alloc: Global, store: &mut MemStore, left: &Left<'_>) -> Result<bool, Fail> {
+pub(crate) fn is_left(alloc: Global, store: &mut MemStore, left: &Left<'_>) -> Result<bool, Fail> {
     let (name, from, changes) = *left;
     let mut wanted = store.get(alloc, from)?;
     for (at, bytes) in changes {

@@ -28,6 +28,8 @@ pub(crate) enum Kind {
     TableShow,
     /// `flash-make TABLE APP SIZE OUT`
     FlashMake,
+    /// `update FLASH IMAGE SCRIPT OUT`
+    Update,
 }
 
 /// A row of the table of commands: the word, how many names stand after it, the words of the
@@ -42,7 +44,7 @@ pub(crate) struct Row {
 }
 
 /// How many commands there are.
-const COMMANDS: usize = 9;
+const COMMANDS: usize = 10;
 
 /// The table of commands, in the order of the usage line.
 pub(crate) fn table() -> [Row; COMMANDS]
@@ -58,10 +60,17 @@ pub(crate) fn table() -> [Row; COMMANDS]
         Row::plain(Kind::TableMake, "table-make", 2),
         Row::plain(Kind::TableShow, "table-show", 1),
         Row::plain(Kind::FlashMake, "flash-make", 4),
+        Row {
+            kind: Kind::Update,
+            word: "update",
+            names: 4,
+            options: &["--driver", "--cut", "--tear", "--fail", "--upto"],
+            cores: true,
+        },
     ]
 }
 
-/// A command, with the names of its files as they stand in the words.
+/// A command that starts no cores, with the names of its files as they stand in the words.
 #[derive(Clone, Copy, Debug, PartialEq, Eq)]
 pub(crate) enum Command<'a> {
     /// Print the entries of a flash's OTA data, the application that they name, and the one that
@@ -180,6 +189,7 @@ impl<'a> Command<'a> {
                 })
             }
             (Kind::FlashMake, _) => None,
+            (Kind::Update, _) => None,
         }
     }
 }
@@ -199,7 +209,7 @@ impl Row {
     }
 
     /// Whether words can stand after the word of this row: so many names, and then options.
-    fn fits(&self, words: &[String]) -> bool
+    pub(crate) fn fits(&self, words: &[String]) -> bool
         ensures exact { result ≡ fits (shown_row self.now) (words_of words.now) }
         ensures names { IsTrue result → self.now.names ≤ length words.now }
     {
@@ -213,7 +223,7 @@ impl Row {
 }
 
 /// The row with this word, of these.
-fn row_of(rows: &[Row], word: &str) -> Option<Row>
+pub(crate) fn row_of(rows: &[Row], word: &str) -> Option<Row>
     ensures exact { option_map shown_row result ≡ row_of (map shown_row rows.now) word.now }
 {
     for row in rows {

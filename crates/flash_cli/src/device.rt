@@ -8,7 +8,7 @@ use crash_images::{CutNor, setting_of_cut_nor_over_ram_nor};
 use nor_device::{Nor, RamNor};
 
 /// How often each step answers that it still runs.
-const POLLS: u32 = 2;
+pub(crate) const POLLS: u32 = 2;
 
 /// The device over the bytes of a flash, which are not copied. It is idle, no step of it ends
 /// badly, and it refuses nothing.

@@ -1,6 +1,7 @@
 //! What follows from the clauses of the top call, over every call.
 
 ghost use Rattle.flash_cli.specs.Laws.{UsageIsOfNoCommand, NoCommandIsUsage, ToldFilesDetermine, RefusedPutsNothing, FaultlessIsWork, MadeIsWhole, MadeIsFactoryFlash};
+ghost use Rattle.flash_cli.specs.UpdateLaws.{CutIsReached, ElseByImage, FailureIsReached};
 
 use image_maker::made_images_are_whole;
 use image_verify::whole_images_show_no_fault;
@@ -42,3 +43,11 @@ pub(crate) fn a_made_flash_is_as_written_at_a_factory()
 {
     whole_images_show_no_fault();
 }
+
+/// The status of an update is a loss of power, or a failure of the device, exactly where the step
+/// that was chosen for it was begun; else it is by the bytes of the image: done, or refused.
+pub(crate) fn updates_end_in_their_chosen_step()
+    ensures cut { CutIsReached }
+    ensures failure { FailureIsReached }
+    ensures image { ElseByImage }
+{}

@@ -19,7 +19,11 @@ mod image_make;
 mod image_tests;
 mod laid;
 mod laws;
+mod opening;
 mod reject;
+mod running;
+mod serve;
+mod served;
 mod status;
 mod table_make;
 mod table_show;
@@ -27,11 +31,16 @@ mod table_show;
 mod tests;
 mod text;
 mod top;
+#[cfg(test)]
+mod update_tests;
+mod update_words;
+mod updating;
 mod verdict;
 mod verified;
 
+use crate::serve::serve;
 use crate::status::Status;
-use crate::top::plain;
+use flash_ops::NoPace;
 use pipe_ends::{DirStore, StdSink};
 use std::env;
 use std::io::{self, ErrorKind};
@@ -53,5 +62,6 @@ fn main(rt: HostRuntime) -> ExitCode {
     };
     let mut store = DirStore::new(&rt);
     let mut sink = StdSink::new(&rt);
-    ExitCode::from(plain(rt.alloc(), &words, &mut store, &mut sink).code())
+    let served = serve(&rt, rt.alloc(), &words, &mut store, &mut sink, &NoPace);
+    ExitCode::from(served.status.code())
 }

@@ -55,7 +55,7 @@ const THIRD: Numbers = (3, VALID, 0xED4A5011);
 const UNCHANGED: (usize, u8) = (usize::MAX, 0);
 
 pub(crate) const USAGE: &str = "usage: flash_cli choose|boot|confirm|reject|image-make|image-check|\
-    table-make|table-show|flash-make\n";
+    table-make|table-show|flash-make|update\n";
 
 pub(crate) const BLANK_LINES: &str = "entry 0 seq 4294967295 state UNDEFINED invalid
 entry 1 seq 4294967295 state UNDEFINED invalid
@@ -142,7 +142,7 @@ fn flash_of(alloc: Global, row: &Row<'_>) -> Result<Vec<u8>, AllocError> {
 }
 
 /// Words on the heap.
-fn words_of(alloc: Global, words: &[&str]) -> Result<Vec<String>, AllocError> {
+pub(crate) fn words_of(alloc: Global, words: &[&str]) -> Result<Vec<String>, AllocError> {
     let mut all = Vec::new(alloc);
     for word in words {
         all.push(String::from_str(alloc, word)?)?;

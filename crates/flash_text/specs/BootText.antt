@@ -1,7 +1,7 @@
 -- The lines of what boots, and of what was confirmed or rejected. Each ends by a line feed.
 use Rattle.std.specs.Prelude.{ℕ, List, ◌++◌, codes, decimal}
 use Rattle.partition_table.specs.declared.app.App.{App}
-use Rattle.flash_text.specs.Text.{app_text}
+use Rattle.flash_text.specs.Names.{app_text}
 
 -- a line of a word and an application
 unfoldable pub app_line : List ℕ → App → List ℕ

@@ -67,7 +67,7 @@ fn put_app_of(out: &mut Vec<u8>, word: &str, app: App) -> Result<(), Memory>
 
 /// Appends the line that says how many steps were made.
 #[tactic(auto, unfolding(crate::specs::BootText::steps_line))]
-fn put_steps(out: &mut Vec<u8>, steps: u64) -> Result<(), Memory>
+pub(crate) fn put_steps(out: &mut Vec<u8>, steps: u64) -> Result<(), Memory>
     ensures ok { OnOk result (out.new.items ≡ out.old.items ++ steps_line steps) }
 {
     put_text(out, "steps ")?;

@@ -85,7 +85,7 @@ pub(crate) fn put_bad_image(out: &mut Vec<u8>, why: BadImage) -> Result<(), Memo
 }
 
 /// Appends words and a byte in hex digits.
-fn put_byte(out: &mut Vec<u8>, text: &str, byte: u8) -> Result<(), Memory>
+pub(crate) fn put_byte(out: &mut Vec<u8>, text: &str, byte: u8) -> Result<(), Memory>
     ensures ok { OnOk result (out.new.items ≡ out.old.items ++ (text.now ++ hex_number 2 byte)) }
 {
     put_text(out, text)?;
@@ -93,7 +93,7 @@ fn put_byte(out: &mut Vec<u8>, text: &str, byte: u8) -> Result<(), Memory>
 }
 
 /// Appends words and two numbers.
-fn put_pair(out: &mut Vec<u8>, text: &str, a: u64, b: u64) -> Result<(), Memory>
+pub(crate) fn put_pair(out: &mut Vec<u8>, text: &str, a: u64, b: u64) -> Result<(), Memory>
     ensures ok { OnOk result (out.new.items ≡ out.old.items ++ (text.now ++ pair_text a b)) }
 {
     put_text(out, text)?;

@@ -1,10 +1,12 @@
 //! Texts from outside: each refusal by its line.
 
 use crate::{Refusal, put_refusal};
+use boot_select::Unsettled;
+use core_script::ScriptWhy;
 use image_maker::{MakeNo, PlanWhy};
 use image_verify::BadImage;
 use part_csv::CsvWhy;
-use partition_table::TableBad;
+use partition_table::{App, TableBad};
 use std::alloc::Global;
 use std::test::Fail;
 
@@ -78,6 +80,77 @@ fn of_plans<'a>() -> [(PlanWhy, &'a str); 8] {
         (PlanWhy::TooMany, "plan line 7 toomany"),
         (PlanWhy::Name, "plan line 7 name"),
         (PlanWhy::NoEntry, "plan line 7 noentry"),
+    ]
+}
+
+/// The refusals of the lines of a script.
+fn of_scripts<'a>() -> [(ScriptWhy, &'a str); 9] {
+    [
+        (ScriptWhy::Word, "script line 7 word"),
+        (ScriptWhy::Count, "script line 7 count"),
+        (ScriptWhy::Space, "script line 7 space"),
+        (ScriptWhy::Number, "script line 7 number"),
+        (ScriptWhy::Label, "script line 7 label"),
+        (ScriptWhy::Hex, "script line 7 hex"),
+        (ScriptWhy::Length, "script line 7 length"),
+        (ScriptWhy::TooMany, "script line 7 toomany"),
+        (ScriptWhy::TooMuch, "script line 7 toomuch"),
+    ]
+}
+
+/// The refusals of an update.
+fn of_updates<'a>() -> [(Refusal, &'a str); 11] {
+    let waiting = Unsettled::Waiting { entry: 0, state: 1 };
+    let unknown = Unsettled::Waiting {
+        entry: 1,
+        state: 0xAB,
+    };
+    let fallback = Unsettled::Fallback {
+        named: App::Factory,
+        started: App::Test,
+    };
+    [
+        (
+            Refusal::NotSettled(waiting),
+            "not settled entry 0 state PENDING_VERIFY",
+        ),
+        (
+            Refusal::NotSettled(unknown),
+            "not settled entry 1 state 000000AB",
+        ),
+        (
+            Refusal::NotSettled(Unsettled::NoApp),
+            "not settled no application",
+        ),
+        (
+            Refusal::NotSettled(fallback),
+            "not settled named factory started test",
+        ),
+        (Refusal::Conflict { slot: 0 }, "conflict ota_0"),
+        (
+            Refusal::SlotFlags { slot: 15, flags: 3 },
+            "slot flags ota_15 3",
+        ),
+        (
+            Refusal::SeqSpent { seq: 4_294_967_294 },
+            "seq spent 4294967294",
+        ),
+        (
+            Refusal::TooLarge {
+                need: 1_048_592,
+                limit: 1_048_576,
+            },
+            "too large 1048592 1048576",
+        ),
+        (
+            Refusal::SweepLimit {
+                length: 262_160,
+                limit: 262_144,
+            },
+            "sweep limit 262160 262144",
+        ),
+        (Refusal::Empty, "empty"),
+        (Refusal::FirstByte { byte: 0 }, "first byte 0x00"),
     ]
 }
 
@@ -177,6 +250,13 @@ fn each_refusal_has_its_line(rt: HostRuntime) -> Result<(), Fail> {
     }
     for (why, text) in of_plans() {
         let why = Refusal::Plan { line: 7, why };
+        assert_eq!(rt; is_line(rt.alloc(), why, text)?, true, "{text}");
+    }
+    for (why, text) in of_scripts() {
+        let why = Refusal::Script { line: 7, why };
+        assert_eq!(rt; is_line(rt.alloc(), why, text)?, true, "{text}");
+    }
+    for (why, text) in of_updates() {
         assert_eq!(rt; is_line(rt.alloc(), why, text)?, true, "{text}");
     }
     for (why, text) in of_images() {

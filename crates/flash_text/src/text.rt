@@ -1,10 +1,12 @@
 //! The lines of OTA data and of a refusal.
 
 ghost use Rattle.std.specs.Prelude.{◌≡◌, ◌++◌, OnOk, codes, option_copied, decimal};
-ghost use Rattle.flash_text.specs.Text.{app_text, entry_line, names_line, refusal_line, refusal_text, state_name, state_text, verdict_text};
+ghost use Rattle.flash_text.specs.Names.{app_text, state_name, state_text};
+ghost use Rattle.flash_text.specs.Text.{entry_line, names_line, refusal_line, refusal_text, verdict_text};
 
-use crate::image_text::{put_bad_image, put_make, put_plan};
+use crate::image_text::{put_bad_image, put_byte, put_make, put_pair, put_plan};
 use crate::refusal::Refusal;
+use crate::start_text::{put_conflict, put_script, put_slot_flags, put_unsettled};
 use crate::table_text::{put_csv, put_table_bad};
 use otadata::{Entry, state};
 use partition_table::App;
@@ -35,8 +37,8 @@ pub fn put_entry(out: &mut Vec<u8>, sector: u64, entry: &Entry) -> Result<(), Me
 }
 
 /// Appends a state by its name, or by its number in 8 hex digits where it has none.
-#[tactic(auto, unfolding(crate::specs::Text::state_text))]
-fn put_state(out: &mut Vec<u8>, number: u32) -> Result<(), Memory>
+#[tactic(auto, unfolding(crate::specs::Names::state_text))]
+pub(crate) fn put_state(out: &mut Vec<u8>, number: u32) -> Result<(), Memory>
     ensures ok { OnOk result (out.new.items ≡ out.old.items ++ state_text number) }
 {
     match state_name(number) {
@@ -71,7 +73,7 @@ pub fn put_names(out: &mut Vec<u8>, app: App) -> Result<(), Memory>
 }
 
 /// Appends an application's name.
-#[tactic(auto, unfolding(crate::specs::Text::app_text))]
+#[tactic(auto, unfolding(crate::specs::Names::app_text))]
 pub(crate) fn put_app(out: &mut Vec<u8>, app: App) -> Result<(), Memory>
     ensures ok { OnOk result (out.new.items ≡ out.old.items ++ app_text app) }
 {
@@ -117,10 +119,21 @@ fn put_reason(out: &mut Vec<u8>, name: &str, why: Refusal) -> Result<(), Memory>
         Refusal::Table(why) => put_table_bad(out, why),
         Refusal::Csv { number, why } => put_csv(out, number, why),
         Refusal::Plan { line, why } => put_plan(out, line, why),
+        Refusal::Script { line, why } => put_script(out, line, why),
         Refusal::Make(why) => put_make(out, why),
         Refusal::Image(why) => put_bad_image(out, why),
+        Refusal::NotSettled(why) => put_unsettled(out, why),
+        Refusal::Conflict { slot } => put_conflict(out, slot),
+        Refusal::SlotFlags { slot, flags } => put_slot_flags(out, slot, flags),
+        Refusal::SeqSpent { seq } => put_numbered(out, "seq spent ", u64::from(seq)),
+        Refusal::TooLarge { need, limit } => put_pair(out, "too large ", need, u64::from(limit)),
+        Refusal::SweepLimit { length, limit } => {
+            put_pair(out, "sweep limit ", length, u64::from(limit))
+        }
         Refusal::NoApplication => put_text(out, "no application"),
         Refusal::NoOtaApp => put_text(out, "no ota app"),
         Refusal::NothingElse => put_text(out, "nothing else"),
+        Refusal::Empty => put_text(out, "empty"),
+        Refusal::FirstByte { byte } => put_byte(out, "first byte", byte),
     }
 }

@@ -30,3 +30,6 @@ returns-in-Ok-push-clause-sink_fault g c = λ is. absurd (subst IsWork is (is_wo
 
 pub returns-in-Ok-push-clause-no_device : goal.returns-in-Ok-push-clause-no_device
 returns-in-Ok-push-clause-no_device g c = no_device _ (is_work _ _ _ c.in-Ok.ensures.ok)
+
+pub returns-in-Ok-push-clause-command : goal.returns-in-Ok-push-clause-command
+returns-in-Ok-push-clause-command g c = λ is. absurd (subst IsWork is (is_work _ _ _ c.in-Ok.ensures.ok))

@@ -1,0 +1,249 @@
+//! What an update begins with, or why it may not begin.
+
+ghost use Rattle.std.specs.Prelude.{◌≡◌, ◌<◌, ◌^◌, None, Err, IfOk, IfErr, IfSome, IsSome, OnOk, length};
+ghost use Rattle.nor_device.specs.FlashSize.{IsFlashSize};
+ghost use Rattle.nor_device.specs.Nor.{IsIdleAsBefore};
+ghost use Rattle.partition_table.specs.Layout.{IsPlaced, layout_of};
+ghost use Rattle.partition_table.specs.Rules.{FitsFlash};
+ghost use Rattle.core_script.specs.ScriptText.{script_of_text};
+ghost use Rattle.flash_cli.specs.Device.{IsSure};
+ghost use Rattle.flash_cli.specs.Laid.{layout_or_refusal};
+ghost use Rattle.flash_cli.specs.Opening.{AimsIn, AreOptions, Begins, IsAimRefusal, IsFresh, IsLook, Opens, OpensBy, next_in, rows_in, script_or_refusal, with_need};
+ghost use Rattle.flash_cli.specs.Report.{IsFound};
+
+use crate::device::{POLLS, bytes_of, device_of};
+use crate::error::{CommandError, Failure};
+use crate::update_words::Options;
+use boot_run::{Aim, AimNo, aim};
+use core_script::{Script, ScriptNo};
+use crash_images::CutNor;
+use flash_text::Refusal;
+use nor_device::{Nor, RamNor, is_flash_size};
+use partition_table::{Layout, TABLE_OFFSET, TABLE_SIZE, Table};
+use std::alloc::Global;
+
+/// What an update begins with: its device, the script of the core beside the driver, the table and
+/// the layout of its flash, and what it will write.
+#[derive(Drop)]
+pub(crate) struct Opening {
+    pub(crate) device: CutNor<RamNor>,
+    pub(crate) script: Script,
+    pub(crate) table: Table,
+    pub(crate) layout: Layout,
+    pub(crate) aim: Aim,
+}
+
+/// What an update of a flash by an image and the text of a script begins with, or the first reason
+/// why it may not begin. The flash is not copied.
+pub(crate) fn opened(
+    alloc: Global,
+    flash: Vec<u8>,
+    image: &[u8],
+    text: &[u8],
+    options: &Options,
+) -> Result<Opening, CommandError>
+    requires options { AreOptions options.now }
+    ensures exact { Opens flash.items image.now text.now options.now result }
+{
+    match script_of(alloc, text) {
+        Ok(script) => opened_by(flash, image, script, options),
+        Err(error) => Err(error),
+    }
+}
+
+/// The same by a script.
+fn opened_by(
+    flash: Vec<u8>,
+    image: &[u8],
+    script: Script,
+    options: &Options,
+) -> Result<Opening, CommandError>
+    requires options { AreOptions options.now }
+    ensures exact { OpensBy flash.items image.now script options.now result }
+{
+    match begin(flash, image, script, options) {
+        Ok(opening) => Ok(opening),
+        Err(why) => Err(CommandError::Refused(why)),
+    }
+}
+
+/// What an update of a flash by an image and a script begins with, or the first reason why it may
+/// not begin: the size of the flash, its table, its layout, what runs and what is written.
+fn begin(
+    flash: Vec<u8>,
+    image: &[u8],
+    script: Script,
+    options: &Options,
+) -> Result<Opening, Refusal>
+    requires options { AreOptions options.now }
+    ensures exact { Begins flash.items image.now script options.now result }
+{
+    let table = match table_in(&flash) {
+        Ok(table) => table,
+        Err(why) => return Err(why),
+    };
+    let layout = match layout_by(&table, flash.len()) {
+        Ok(layout) => layout,
+        Err(why) => return Err(why),
+    };
+    match aim_at(flash, &layout, image.len()) {
+        Ok((aim, flash)) => Ok(Opening {
+            device: chosen_device(flash, options),
+            script,
+            table,
+            layout,
+            aim,
+        }),
+        Err(why) => Err(why),
+    }
+}
+
+/// The actions of a script.
+fn script_of(alloc: Global, text: &[u8]) -> Result<Script, CommandError>
+    ensures exact { IsFound (λ script. script) (script_or_refusal (script_of_text text.now))
+        result }
+{
+    match Script::read(alloc, text) {
+        Ok(script) => Ok(script),
+        Err(ScriptNo::Bad { line, why }) => {
+            Err(CommandError::Refused(Refusal::Script { line, why }))
+        }
+        Err(ScriptNo::Memory) => Err(CommandError::Failed(Failure::Memory)),
+    }
+}
+
+/// The table of a flash, or the first reason why it has none: its size, then its table.
+#[tactic(auto, unfolding(crate::specs::Opening::rows_in))]
+fn table_in(flash: &[u8]) -> Result<Table, Refusal>
+    ensures exact { result ≡ rows_in flash.now }
+    ensures size { OnOk result (IsFlashSize (length flash.now)) }
+    ensures small { OnOk result (length flash.now < 2 ^ 32) }
+    ensures fits { IfOk result (FitsFlash (length flash.now)) }
+{
+    if !is_flash_size(flash.len()) {
+        return Err(Refusal::FlashSize {
+            size: flash.len() as u64,
+        });
+    }
+    let at = TABLE_OFFSET as usize;
+    let mut bytes = [0; TABLE_SIZE];
+    bytes.copy_from_slice(&flash[at..at + TABLE_SIZE]);
+    match Table::read(&bytes, flash.len() as u32) {
+        Ok(table) => Ok(table),
+        Err(why) => Err(Refusal::Table(why)),
+    }
+}
+
+/// The layout by a table of a flash of so many bytes.
+fn layout_by(table: &Table, size: usize) -> Result<Layout, Refusal>
+    requires fits { FitsFlash size table.now }
+    ensures exact { result ≡ layout_or_refusal (layout_of table.now) }
+    ensures placed { IfOk result (λ layout. IsPlaced layout size) }
+{
+    match table.layout() {
+        Ok(layout) => Ok(layout),
+        Err(why) => Err(Refusal::Table(why)),
+    }
+}
+
+/// The device over the bytes of a flash, which are not copied, with the chosen step. It is idle,
+/// and made no step.
+fn chosen_device(flash: Vec<u8>, options: &Options) -> CutNor<RamNor>
+    requires size { IsFlashSize (length flash.items) }
+    requires options { AreOptions options.now }
+    ensures fresh { IsFresh options.now flash.items result }
+{
+    CutNor::new(
+        RamNor::of_bytes(flash, POLLS),
+        options.cut,
+        options.tear,
+        options.fail,
+    )
+}
+
+/// What an update of so many bytes would write, and the flash, of which nothing is changed.
+fn aim_at(flash: Vec<u8>, layout: &Layout, long: usize) -> Result<(Aim, Vec<u8>), Refusal>
+    requires size { IsFlashSize (length flash.items) }
+    requires small { length flash.items < 2 ^ 32 }
+    requires placed { IsPlaced layout.now (length flash.items) }
+    ensures aims { IfOk result (λ found. AimsIn flash.items layout.now long found.0) }
+    ensures same { IfOk result (λ found. found.1.items ≡ flash.items) }
+    ensures err { IfErr result
+        (λ why. next_in flash.items layout.now long ≡ Err why) }
+{
+    let mut device = device_of(flash);
+    match aim_long(&mut device, layout, long) {
+        Ok(aim) => Ok((aim, bytes_of(device))),
+        Err(why) => Err(why),
+    }
+}
+
+/// What an update of so many bytes would write on a device that refuses no call. An image of 4 GiB
+/// or more is one that fits no slot.
+fn aim_long<D: Nor>(device: &mut D, layout: &Layout, long: usize) -> Result<Aim, Refusal>
+    requires idle { D.running device.old ≡ None }
+    requires placed { IsPlaced layout.now (D.size device.old) }
+    requires small { D.size device.old < 2 ^ 32 }
+    requires sure { IsSure D.may_end D.may_refuse (D.setting device.old) }
+    requires told { IsSome (D.bytes device.old) }
+    ensures aims { IfOk result (λ aim. IfSome (D.bytes device.old)
+        (λ flash. AimsIn flash layout.now long aim)) }
+    ensures err { IfErr result (λ why. IfSome (D.bytes device.old)
+        (λ flash. next_in flash layout.now long ≡ Err why)) }
+    ensures same { IsIdleAsBefore D.bytes D.running device.old device.new }
+{
+    if long <= u32::MAX as usize {
+        return aim_short(device, layout, long as u32);
+    }
+    match aim_short(device, layout, u32::MAX) {
+        Ok(_) => unreachable!(),
+        Err(why) => Err(with_need(long as u64, why)),
+    }
+}
+
+/// What an update of so many bytes would write on a device that refuses no call.
+fn aim_short<D: Nor>(device: &mut D, layout: &Layout, long: u32) -> Result<Aim, Refusal>
+    requires idle { D.running device.old ≡ None }
+    requires placed { IsPlaced layout.now (D.size device.old) }
+    requires small { D.size device.old < 2 ^ 32 }
+    requires sure { IsSure D.may_end D.may_refuse (D.setting device.old) }
+    ensures aims { IfOk result (λ aim. IfSome (D.bytes device.old)
+        (λ flash. AimsIn flash layout.now long aim)) }
+    ensures err { IfErr result (λ why. IfSome (D.bytes device.old)
+        (λ flash. next_in flash layout.now long ≡ Err why)) }
+    ensures same { IsIdleAsBefore D.bytes D.running device.old device.new }
+{
+    match aim(device, layout, long) {
+        Ok(aim) => Ok(aim),
+        Err(no) => Err(refusal_of(no)),
+    }
+}
+
+/// The refusal of an update that may not begin.
+fn refusal_of(no: AimNo) -> Refusal
+    requires looked { IsLook no }
+    ensures exact { IsAimRefusal no result }
+{
+    match no {
+        AimNo::NotSettled(why) => Refusal::NotSettled(why),
+        AimNo::Conflict { slot } => Refusal::Conflict { slot },
+        AimNo::SlotFlags { slot, flags } => Refusal::SlotFlags { slot, flags },
+        AimNo::SeqSpent { seq } => Refusal::SeqSpent { seq },
+        AimNo::TooLarge { need, limit } => Refusal::TooLarge {
+            need: u64::from(need),
+            limit,
+        },
+        AimNo::Device => unreachable!(),
+        AimNo::Cut => unreachable!(),
+    }
+}
+
+/// A refusal, with this length where it is that the image is too long.
+fn with_need(need: u64, why: Refusal) -> Refusal
+    ensures exact { result ≡ with_need need why }
+{
+    match why {
+        Refusal::TooLarge { need: _, limit } => Refusal::TooLarge { need, limit },
+        other => other,
+    }
+}

@@ -1,0 +1,109 @@
+//! An update that began, with both cores at work.
+
+ghost use Rattle.std.specs.Prelude.{◌≡◌, ◌≢◌, ◌<◌, Some, Ok, IfOk};
+ghost use Rattle.partition_table.specs.Layout.{Places, layout_of};
+ghost use Rattle.boot_select.specs.Boots.{entries_in, images_in};
+ghost use Rattle.image_verify.specs.Held.{held};
+ghost use Rattle.boot_run.specs.Booted.{IsBoot};
+ghost use Rattle.power_cut.specs.Device.{IsReady};
+ghost use Rattle.power_cut.specs.Update.{BootsEither, Opens};
+ghost use Rattle.power_cut.specs.Whole.{AreDone, BootsNew, IsTrial};
+ghost use Rattle.duo_run.specs.Both.{HasTable};
+ghost use Rattle.duo_run.specs.Legs.{IsDuoConfirm, IsDuoSession, MayAffirm, MayInstall};
+ghost use Rattle.flash_cli.specs.Opening.{AreOptions, IsBegun, opening_with};
+ghost use Rattle.flash_cli.specs.Served.{AreReadable};
+ghost use Rattle.flash_cli.specs.Updating.{IsUpdate};
+
+use crate::opening::Opening;
+use crate::update_words::Options;
+use boot_run::{Aim, Booted};
+use bus_hub::Memory;
+use crash_images::CutNor;
+use duo_run::Duo;
+use flash_ops::Pace;
+use nor_device::RamNor;
+use partition_table::Layout;
+use power_cut::{Legs, Ran, Trial, Upto, trial};
+use rollback::Rewrite;
+use std::alloc::Global;
+use std::sync::Wait;
+use std::thread::Threads;
+
+/// Makes an update that began: the driver writes the image, the other core makes the script.
+pub(crate) fn run<P: Pace + Sync, R: Threads + Wait + Sync>(
+    rt: &R,
+    alloc: Global,
+    opening: Opening,
+    image: &[u8],
+    options: &Options,
+    pace: &P,
+) -> Result<Trial, Memory>
+    requires options { AreOptions options.now }
+    requires begun { IsBegun image.now options.now opening }
+    ensures update { IfOk result (IsUpdate options.now (opening_with image.now opening)) }
+    ensures readable { IfOk result AreReadable }
+{
+    let Opening {
+        device,
+        script,
+        table,
+        layout,
+        aim,
+    } = opening;
+    let duo = Duo {
+        table: &table,
+        script: &script,
+        driver: options.driver,
+        pace,
+    };
+    run_legs(rt, alloc, device, &duo, &layout, &aim, image, options.upto)
+}
+
+/// Makes the legs of an update on a device, by two cores.
+fn run_legs<P: Pace + Sync, R: Threads + Wait + Sync>(
+    rt: &R,
+    alloc: Global,
+    device: CutNor<RamNor>,
+    duo: &Duo<'_, P>,
+    layout: &Layout,
+    aim: &Aim,
+    image: &[u8],
+    upto: Upto,
+) -> Result<Trial, Memory>
+    requires core { duo.now.driver < 2 }
+    requires ready { IsReady device }
+    requires table { HasTable duo.now.table.now layout.now device.inner.bytes }
+    requires opens { Opens layout.now device.inner.bytes aim.now image.now }
+    ensures trial { IfOk result (λ t. IsTrial
+        (λ ran. IsDuoSession duo.now.table.now duo.now.script.now duo.now.driver layout.now aim.now
+        image.now device ran)
+        (λ d at write ran. IsDuoConfirm duo.now.table.now duo.now.script.now duo.now.driver
+        layout.now at.now write.now d ran)
+        layout.now device.inner.bytes upto t) }
+    ensures boots { IfOk result (λ t.
+        BootsEither layout.now device.inner.bytes aim.now image.now t.flash.items) }
+    ensures after { IfOk result (λ t. IsBoot layout.now (images_in held layout.now t.flash.items)
+        (entries_in layout.now t.flash.items) (Some t.after)) }
+    ensures installed { IfOk result (λ t. upto ≢ Upto.Boot → AreDone t.legs.items
+        → BootsNew layout.now aim.now image.now t.flash.items) }
+{
+    let session = |dev: CutNor<RamNor>, aim: &Aim, image: &[u8]| -> Result<Ran, Memory>
+        requires core { duo.now.driver < 2 }
+        requires layout { (layout : Places) × (layout_of duo.now.table.now ≡ Ok layout)
+            × MayInstall duo.now.table.now layout aim.now image.now dev }
+        ensures leg { IfOk result (λ ran. (layout : Places)
+            → layout_of duo.entry.now.table.now ≡ Ok layout
+            → IsDuoSession duo.entry.now.table.now duo.entry.now.script.now
+            duo.entry.now.driver layout aim.now image.now dev ran) }
+    { duo.session(rt, alloc, dev, aim, image) };
+    let confirm = |dev: CutNor<RamNor>, at: &Booted, write: &Rewrite| -> Result<Ran, Memory>
+        requires core { duo.now.driver < 2 }
+        requires layout { (layout : Places) × (layout_of duo.now.table.now ≡ Ok layout)
+            × MayAffirm duo.now.table.now layout at.now write.now dev }
+        ensures leg { IfOk result (λ ran. (layout : Places)
+            → layout_of duo.entry.now.table.now ≡ Ok layout
+            → IsDuoConfirm duo.entry.now.table.now duo.entry.now.script.now
+            duo.entry.now.driver layout at.now write.now dev ran) }
+    { duo.confirm(rt, alloc, dev, at, write) };
+    trial(device, layout, aim, image, upto, &Legs { session, confirm })
+}
