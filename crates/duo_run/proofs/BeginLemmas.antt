@@ -105,7 +105,7 @@ confirm_long layout first write placed is =
 needed : (layout : Places) (first : List ℕ) (purpose : Purpose) (probe : Option ℕ)
     → IsPlaced layout (length first) → IsFor layout first purpose
     → NeedsAtMost (driver_room (length_for purpose)).entries
-        (driver_room (length_for purpose)).bytes
+    (driver_room (length_for purpose)).bytes
     (most_moves_for layout purpose probe)
 needed layout first (Install aim image) probe placed for =
     let begins = for.opens.begins in

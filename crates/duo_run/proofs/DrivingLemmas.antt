@@ -163,7 +163,7 @@ module _ {S : Type 0} (probe : Option ℕ) (w : Writing (Base S Course)) where
         (entries_for entry) (bytes_for entry)
         (room_less w.core.base w.core.core w.core.share (entries_for entry + 0)
         (bytes_for entry + 0) (entries_for entry) (bytes_for entry) (omega arith) (omega arith)
-            room))
+        room))
 
     pub sealed_look : CanLook w.core.base w.core.regs probe → CanLook v.core.base v.core.regs probe
     sealed_look look = look_rest reads (Ok tt) w.core v.core probe x.ran look
@@ -263,7 +263,7 @@ module _ {S : Type 0} (layout : Places) (aim : Aim) (image : List ℕ) (probe : 
   not_begun refused_so p run =
       subst (λ (ms : List Move). HasRun 0 ms (Err (cause_of refused_so)) o p) (sym session_is)
       (run_stops 0 begin (image_moves probe layout.otadata row (next_rewrite aim) image)
-          (cause_of refused_so)
+      (cause_of refused_so)
       o p run)
 
   module _ (w : Writing (Base S Course)) (begun : HasBegun layout aim probe o w) where
@@ -350,7 +350,7 @@ module _ {S : Type 0} (layout : Places) (aim : Aim) (image : List ℕ) (probe : 
     pub not_written_end : (refused_so : WriteNo) (p : Own (Base S Course) Did)
         → IsNotAllWritten probe image w refused_so p
         → IfOk (unwritten_as refused_so) (λ end. end ≡ session_end (slot_size layout aim.slot)
-            image)
+        image)
     not_written_end (writes.FirstByte byte) p x =
         wrong_end (slot_size layout aim.slot) image byte x.0
     not_written_end writes.Device p x = tt
@@ -388,7 +388,7 @@ module _ {S : Type 0} (layout : Places) (aim : Aim) (image : List ℕ) (probe : 
       seal_is : seal_moves probe z (image_of z.core.base) ≡ closes
       seal_is = (λ i. seal_moves probe
           (record { core = z.core; target = target_same i; written = all.written i })
-              (image_same i))
+          (image_same i))
 
       pub session_ran : (r : Result (Unit {0}) NorFault) (p : Own (Base S Course) Did)
           → HasRun 0 (seal_moves probe z (image_of z.core.base)) r z.core p

@@ -63,7 +63,7 @@ session_is : (rows : List Row) (script : List Action) (driver : ℕ) (layout : P
     (image : List ℕ) (row : Row) (dev : CutDevice Ram) (ran : Ran)
     → row_for layout aim.running ≡ Some row
     → IsDuoLeg rows script driver layout (Install aim image) row.offset aim.info.segments.items dev
-        ran
+    ran
     → IsDuoSession rows script driver layout aim image dev ran
 session_is rows script driver layout aim image row dev ran is l = record {
   ran_is = l.ran_is;
@@ -95,7 +95,7 @@ module _ (rows : List Row) (layout : Places) (at : Booted) (write : Rewrite)
   started : images_in held layout dev.inner.bytes at.app ≡ Some may.started.image
   started = first_holds (images_in held layout dev.inner.bytes)
       (candidates layout (names layout (entries_in layout dev.inner.bytes))) at.app
-          may.started.image
+      may.started.image
       may.started.is
 
   confirm_row : IsSome (row_for layout at.app)
@@ -194,7 +194,7 @@ module _ (rows : List Row) (script : List Action) (driver : ℕ) (here : Places)
 
   pub installed : (row : Row) (ran : Ran) → row_for here aim.running ≡ Some row
       → IsDuoLeg rows script driver here (Install aim image) row.offset aim.info.segments.items dev
-          ran
+      ran
       → (layout : Places) → layout_of rows ≡ Ok layout
       → IsDuoSession rows script driver layout aim image dev ran
   installed row ran there l layout laid =

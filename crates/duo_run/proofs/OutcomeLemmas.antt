@@ -97,7 +97,7 @@ module _ (rows : List Row) (script : List Action) (driver : ℕ) (layout : Place
     (purpose : Purpose) (probe : Option ℕ) (pages : Map → Type 0) (holds : List ℕ → Type 0)
     (old new : CutDevice Ram) (journal : Kept) (two : driver < 2)
     (leg : IsLeg (DriverShare layout purpose probe) (WorkerShare rows reset script) driver pages
-        holds
+    holds
     old new journal) (sound : IsUnbroken old new.steps) where
   core_did : (c : ℕ) → c < 2 → of_core c leg.stands.stood.log ≡ share_of c leg.left leg.right
   core_did zero small = leg.stands.stood.left_is
@@ -132,7 +132,7 @@ module _ (rows : List Row) (script : List Action) (driver : ℕ) (layout : Place
       by (Ok u) share = refl
       by (Err why) share = absurd (none_refused (1 - driver) (omega arith)
           (stopped_refused rows why 1 reset script (share_of (1 - driver) leg.left leg.right)
-              share))
+          share))
 
 -- ---- the leg
 
@@ -332,7 +332,7 @@ module _ (rows : List Row) (script : List Action) (driver : ℕ) (layout : Place
         by (Ok end) share =
             made_follows 0 reset None moves (share_of driver left.share right.share) share
             ∙ begins_steps rows script driver layout purpose offset notes dev begins
-                (probe_in notes)
+            (probe_in notes)
         by (Err why) share =
             absurd (not_bad dev last (unbroken is) (refused (cause_of why) share))
 
@@ -355,12 +355,12 @@ module _ (rows : List Row) (script : List Action) (driver : ℕ) (layout : Place
         drove_whole rows script driver layout purpose (probe_in notes)
             (λ (m : Map). m ≡ application_pages offset notes)
             (HoldsFor layout dev.inner.bytes purpose (open_addresses rows)) dev ran.dev ran.journal
-                two
+            two
             leg (unbroken is),
         worked_whole rows script driver layout purpose (probe_in notes)
             (λ (m : Map). m ≡ application_pages offset notes)
             (HoldsFor layout dev.inner.bytes purpose (open_addresses rows)) dev ran.dev ran.journal
-                two
+            two
             leg (unbroken is),
       );
       done = done;

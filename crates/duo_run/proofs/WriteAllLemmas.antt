@@ -167,7 +167,7 @@ module _ {S : Type 0} (probe : Option ℕ) (image : List ℕ) (first : Writing (
           (sym (together rest piece later cut))
           ∙ write_pieces probe (at + w.written) piece later (omega arith) (omega arith)
           ∙ ap (λ (n : ℕ). write_moves probe (at + w.written) piece ++ write_moves probe n later)
-              place
+          place
       | inr last ↦
           ap (λ (l : List ℕ). write_moves probe (at + w.written) l) (sym last.all)
           ∙ sym (append-nil (write_moves probe (at + w.written) piece))
@@ -213,7 +213,7 @@ module _ {S : Type 0} (probe : Option ℕ) (image : List ℕ) (first : Writing (
     piece_room : HasRoomFor w.core.base w.core.core w.core.share (piece_moves probe w piece)
     piece_room =
         subst (λ (ms : List Move). HasRoomFor w.core.base w.core.core w.core.share ms)
-            (sym piece_is)
+        (sym piece_is)
         (room_front (write_moves probe (at + w.written) piece)
         (write_moves probe (at + (w.written + len)) later) w.core
         (subst (λ (ms : List Move). HasRoomFor w.core.base w.core.core w.core.share ms) cut_moves
@@ -224,7 +224,7 @@ module _ {S : Type 0} (probe : Option ℕ) (image : List ℕ) (first : Writing (
     right is = elim up.begun [
       | inl same ↦
           let zero_is : w.written ≡ 0 = ap (λ (z : Writing (Base S Course)). z.written) same ∙ none
-              in
+          in
           let all : rest ≡ image = up.rest_is ∙ ap (λ (n : ℕ). drop n image) zero_is in
           sym (wrong_first image piece (cut.front ∙ ap (λ (l : List ℕ). take 4096 l) all))
           ∙ ap (λ (n : ℕ). wrong_byte n piece) (sym zero_is) ∙ is
@@ -300,7 +300,7 @@ module _ {S : Type 0} (probe : Option ℕ) (image : List ℕ) (first : Writing (
     piece_refused (writes.FirstByte byte) o x = elim up.begun [
       | inl same ↦
           let zero_is : w.written ≡ 0 = ap (λ (z : Writing (Base S Course)). z.written) same ∙ none
-              in
+          in
           let all : rest ≡ image = up.rest_is ∙ ap (λ (n : ℕ). drop n image) zero_is in (
             sym (wrong_first image piece (cut.front ∙ ap (λ (l : List ℕ). take 4096 l) all))
                 ∙ ap (λ (n : ℕ). wrong_byte n piece) (sym zero_is) ∙ x.0,
@@ -308,7 +308,7 @@ module _ {S : Type 0} (probe : Option ℕ) (image : List ℕ) (first : Writing (
           )
       | inr later ↦
           let refused_so : None ≡ Some byte = sym (wrong_later w.written piece later.0) ∙ x.0 in
-              absurd cc
+          absurd cc
     ]
     piece_refused writes.Device o x = (right x.0, stops _ o x.1)
     piece_refused writes.Cut o x = (right x.0, stops _ o x.1)

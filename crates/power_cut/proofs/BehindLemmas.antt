@@ -463,7 +463,7 @@ module _ (layout : Places) (first : List ℕ) (aim : Aim) (image : List ℕ)
       (entries_in layout then 0) (entries_in layout then 1)
       (after 0 (omega arith) made) (after 1 (omega arith) made)
       ∙ ap (λ (h : Images). first_held h (candidates layout (names layout
-          (entries_in layout then))))
+      (entries_in layout then))))
       (sym images)
     where
       then : List ℕ

@@ -145,34 +145,34 @@ merged_length (z ∷ zs) xs ys (inr (rest, is, merged)) =
 module _ (drives works : Result (Unit {0}) NorFault → List Did → Type 0) (driver : ℕ)
     (pages : Map → Type 0) (holds : List ℕ → Type 0) (old new : CutDevice Ram) (journal : Kept)
     (leg : IsLeg drives works driver pages holds old new journal) (below : new.steps < 2 ^ 64 - 1)
-    where
-  abbrev log : List Item
-  log = leg.stands.stood.log
+  where
+    abbrev log : List Item
+    log = leg.stands.stood.log
 
-  steps_end : (reached any_after (begun leg.base) log).steps ≡ new.steps
-  steps_end = ap (λ (t : State AnyDuty). t.steps) leg.stands.stood.leads ∙ leg.same.steps
+    steps_end : (reached any_after (begun leg.base) log).steps ≡ new.steps
+    steps_end = ap (λ (t : State AnyDuty). t.steps) leg.stands.stood.leads ∙ leg.same.steps
 
-  -- as many steps were begun in its log
-  pub leg_counts : new.steps ≡ old.steps + opened_in (all_of log)
-  leg_counts =
-      let first : leg.base.steps ≡ old.steps = leg.opening.steps_are in
-      elim (log_count any_part AnyGrants any_after (begun leg.base) log) [
-        | inl is ↦ omega (arith, is, steps_end, first)
-        | inr much ↦ absurd (omega (arith, much, steps_end, below))
-      ]
+    -- as many steps were begun in its log
+    pub leg_counts : new.steps ≡ old.steps + opened_in (all_of log)
+    leg_counts =
+        let first : leg.base.steps ≡ old.steps = leg.opening.steps_are in
+        elim (log_count any_part AnyGrants any_after (begun leg.base) log) [
+          | inl is ↦ omega (arith, is, steps_end, first)
+          | inr much ↦ absurd (omega (arith, much, steps_end, below))
+        ]
 
-  -- where nothing broke off, they are those that both shares made
-  pub whole_leg_counts : IsUnbroken old new.steps
-      → new.steps ≡ old.steps + (length (made leg.left) + length (made leg.right))
-  whole_leg_counts sound =
-      let idle : runs_count any_part AnyGrants any_after
-      (reached any_after (begun leg.base) log).running ≡ 0 =
-      ap (λ (t : State AnyDuty). runs_count any_part AnyGrants any_after t.running)
-      leg.stands.stood.leads in
-      let count = made_count any_part AnyGrants any_after leg.base.setting (begun leg.base) log
-      leg.stands.stood.ruled
-      (not_bad drives works driver pages holds old new journal leg sound) in
-      let merged = merged_length (made (all_of log)) (made leg.left) (made leg.right)
-      (merged_shares drives works driver pages holds old new journal leg) in
-      let here = leg_counts in
-      omega (arith, idle, count, merged, here)
+    -- where nothing broke off, they are those that both shares made
+    pub whole_leg_counts : IsUnbroken old new.steps
+        → new.steps ≡ old.steps + (length (made leg.left) + length (made leg.right))
+    whole_leg_counts sound =
+        let idle : runs_count any_part AnyGrants any_after
+        (reached any_after (begun leg.base) log).running ≡ 0 =
+        ap (λ (t : State AnyDuty). runs_count any_part AnyGrants any_after t.running)
+        leg.stands.stood.leads in
+        let count = made_count any_part AnyGrants any_after leg.base.setting (begun leg.base) log
+        leg.stands.stood.ruled
+        (not_bad drives works driver pages holds old new journal leg sound) in
+        let merged = merged_length (made (all_of log)) (made leg.left) (made leg.right)
+        (merged_shares drives works driver pages holds old new journal leg) in
+        let here = leg_counts in
+        omega (arith, idle, count, merged, here)

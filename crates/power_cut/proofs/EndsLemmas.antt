@@ -319,11 +319,11 @@ module _ (old new : CutDevice Ram) (whole wanted : LegEnd) (asked : Result (Unit
     (stopped : OnOk asked (¬ MustRefuse (setting_of new) new.steps))
     (told : IsUnbroken old new.steps ⊎ IsBad old.cut old.fail new.steps)
     (whole_is : IsWholeEnd wanted) (same : ¬ IsBad old.cut old.fail new.steps → whole
-        ≡ wanted) where
+    ≡ wanted) where
   asked_end : HasEnd old new.steps wanted (end_asked new.steps whole asked)
   asked_end = at asked
       (subst (λ (set : CutSetting (Unit {0})). IfErr asked
-          (MayRefuse set new.steps)) setting allowed)
+      (MayRefuse set new.steps)) setting allowed)
       (subst (λ (set : CutSetting (Unit {0})). OnOk asked (¬ MustRefuse set new.steps)) setting
       stopped)
     where

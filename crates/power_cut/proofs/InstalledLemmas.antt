@@ -161,7 +161,7 @@ module _ (shown : ShowsNone) (layout : Places) (aim : Aim) (image : List ℕ) (o
   -- a confirmation that is made whole
   module _ (drives works : Result (Unit {0}) NorFault → List Did → Type 0) (pages : Map → Type 0)
       (dev : CutDevice Ram) (write : Rewrite) (write_is : write
-          ≡ restated 2 aim.next.sector aim.next.entry)
+      ≡ restated 2 aim.next.sector aim.next.entry)
       (ran : Ran) (is : IsConfirmLeg drives works driver pages layout others write dev ran)
       (end : ran.leg.end ≡ Done)
       (drove : (share : List Did) → drives (Ok tt) share

@@ -119,7 +119,7 @@ module _ {K P : Type 0} (part : K → ℕ → P) (grants : P → Step → Type 0
         (pages : Map → Type 0) (holds : List ℕ → Type 0) (old new : CutDevice Ram)
         (h : Hub (CutDevice Ram) K) (b : Base (CutSetting (Unit {0})) K) (map : Map)
         (journal : Kept) (duty : K) (left right : List Did) (drove worked : Result
-            (Unit {0}) NorFault)
+        (Unit {0}) NorFault)
         → IsBaseOf bytes_of is_off (λ d. d.steps) faults_of setting_of b old map journal duty
         → pages b.map
         → Stands bytes_of is_off (λ d. d.steps) faults_of setting_of MayEnd MayTear MayRefuse
@@ -128,7 +128,7 @@ module _ {K P : Type 0} (part : K → ℕ → P) (grants : P → Step → Type 0
         → stays b.duty
         → ((d : K) (flash : List ℕ) → stays d → good b.flash d flash → holds flash)
         → drives drove (share_of driver left right) → works worked (share_of
-            (1 - driver) left right)
+        (1 - driver) left right)
         → IsLeg drives works driver pages holds old new h.journal
     leg_of drives works driver pages holds old new h b map journal duty left right drove worked
         opening mapped stands idle same legal is means drives_so works_so = record {

@@ -422,7 +422,7 @@ module _ (shown : ShowsNone) (layout : Places) (aim : Aim) (image : List ℕ) (o
                                   may = subst (λ b. MayConfirm layout first dev b of.now)
                                       (sym at_is)
                                       (subst (MayConfirm layout first dev it)
-                                          (sym of_is) confirm_may);
+                                      (sym of_is) confirm_may);
                                   ran = last;
                                   confirmed = confirmed;
                                   ends = subst
@@ -435,16 +435,16 @@ module _ (shown : ShowsNone) (layout : Places) (aim : Aim) (image : List ℕ) (o
                         (confirm_chosen old ran (session_end (slot_size layout aim.slot) image)
                         keeps.ran_is (done_is ran.leg.end done_here) dev leg
                         (subst (λ (d : CutDevice Ram). IsBootLeg layout d dev leg) mid_is
-                            boot_is).ran
+                        boot_is).ran
                         last kept.ran_is);
                     boots = subst (BootsEither layout first aim image) (sym closed.ends.flash_is)
                         (behind_boots layout first aim image opens last.dev.inner.bytes
-                            behind_last);
+                        behind_last);
                     after = closed.after;
                     installed = λ no_boot done.
                         subst (BootsNew layout aim image) (sym closed.ends.flash_is)
                         (confirmed_boots_new ran keeps done_here dev leg it whole_boot write
-                            write_is
+                        write_is
                         last kept
                         (ap is_done (subst AreDone (closed.ends.legs_are ∙ legs_are) done).1.1.0));
                   }
