@@ -177,9 +177,9 @@ fn refused_calls<'a>() -> [Call<'a>; 9] {
             "refused: seq spent 4294967294\n",
         ),
         (
-            &["update", "F0", "L", "empty", "none"],
+            &["update", "F0", "F0", "empty", "none"],
             2,
-            "refused: too large 1048592 1048576\n",
+            "refused: too large 4194304 1048576\n",
         ),
         (
             &["update", "none", "B", "a.plan", "none"],
