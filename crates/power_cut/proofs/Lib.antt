@@ -10,3 +10,4 @@ pub mod CountLemmas
 pub mod InstalledLemmas
 pub mod EmptyLemmas
 pub mod OpensLemmas
+pub mod SweepLemmas

@@ -51,7 +51,7 @@ if_ok (Err why) more is = tt
 -- ---- ends
 
 -- a leg that is made whole ended with Done
-done_is : (end : LegEnd) → is_done end ≡ true → end ≡ Done
+pub done_is : (end : LegEnd) → is_done end ≡ true → end ≡ Done
 done_is Done is = refl
 done_is (Device k) is = absurd cc
 done_is (Cut k) is = absurd cc

@@ -10,3 +10,4 @@ pub mod Kept
 pub mod Whole
 pub mod Behind
 pub mod Installed
+pub mod Sweep

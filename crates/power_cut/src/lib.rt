@@ -9,6 +9,8 @@ mod legs;
 mod outcome;
 mod run;
 mod runner;
+mod sweeping;
+mod swept;
 #[cfg(test)]
 mod tests;
 
@@ -17,3 +19,5 @@ pub use legs::{Leg, LegEnd, Ran, Upto};
 pub use outcome::Trial;
 pub use run::trial;
 pub use runner::{Legs, Runner};
+pub use sweeping::sweep;
+pub use swept::{Sweep, SweepNo};
