@@ -1,53 +1,82 @@
 #!/bin/sh
 # Tries the launcher on a small repository of its own, with a command rt that only notes what it was asked for.
-# It takes some seconds and is no part of the gate. Its last line says `all as wanted`.
+# It takes about half a minute and is no part of the gate. Its last line says `all as wanted`.
 set -eu
 
 root=$(CDPATH='' cd -- "$(dirname -- "$0")/.." && pwd -P)
 work=$(mktemp -d)
 trap 'rm -rf "$work"' EXIT
-mkdir -p "$work/repo/bin" "$work/repo/crates/low/src" "$work/repo/crates/flash_cli/src" "$work/tools" "$work/here"
+mkdir -p "$work/repo/bin" "$work/tools" "$work/here"
 cp "$root/bin/flash_cli" "$work/repo/bin/"
-printf 'low:\nflash_cli: low\n' >"$work/repo/crates.txt"
-echo 'one' >"$work/repo/crates/low/src/lib.rt"
-echo 'two' >"$work/repo/crates/low/src/more.rt"
-echo 'three' >"$work/repo/crates/flash_cli/src/main.rt"
+printf 'low:\none: low\ntwo: low\nflash_cli: one two low\n' >"$work/repo/crates.txt"
+for crate in low one two flash_cli; do
+    mkdir -p "$work/repo/crates/$crate/src"
+    echo "$crate" >"$work/repo/crates/$crate/src/lib.rt"
+done
+echo 'more' >"$work/repo/crates/low/src/more.rt"
 echo 'kit-1' >"$work/kit"
 
-# Notes `lib` and `run`; `run` builds a program that ends with the status that its first word names.
+# Notes the begin and the end of `lib` and `run` in a crate, and which crate began before one that it needs. In between it does
+# what the file does-CRATE says. `run` builds a program that ends with the status that its first word names.
 cat >"$work/tools/rt" <<SCRIPT
 #!/bin/sh
-case \$1 in
-    version) cat "$work/kit" ;;
-    lib) echo lib >>"$work/asked"; [ ! -e "$work/unproved" ] ;;
-    run)
-        echo run >>"$work/asked"
-        mkdir -p out
-        printf '#!/bin/sh\necho "in \$(pwd)"\nexit "\$1"\n' >out/flash_cli
-        chmod +x out/flash_cli
-        echo 'usage: flash_cli choose'
-        exit 1 ;;
-esac
+[ \$1 != version ] || exec cat "$work/kit"
+crate=\$(basename "\$PWD")
+echo "begin \$crate" >>"$work/asked"
+echo \$\$ >"$work/id-\$crate"
+for need in \$(sed -n "s/^\$crate://p" ../../crates.txt); do
+    grep -q "^end \$need\\\$" "$work/asked" || echo "\$crate before \$need" >>"$work/early"
+done
+[ ! -e "$work/does-\$crate" ] || . "$work/does-\$crate"
+echo "end \$crate" >>"$work/asked"
+[ \$1 = run ] || exit 0
+mkdir -p out
+printf '#!/bin/sh\necho "in \$(pwd)"\nexit "\$1"\n' >out/flash_cli
+chmod +x out/flash_cli
+echo 'usage: flash_cli choose'
+exit 1
 SCRIPT
 chmod +x "$work/tools/rt"
 PATH=$work/tools:$PATH
 export PATH
+
+wrong() {
+    echo "$1" >&2
+    exit 1
+}
 
 # launched NAME STATUS BUILDS ERROR: what the launcher ends with, how often it built, what standard error has.
 launched() {
     name=$1 wanted=$2 builds=$3 error=$4
     shift 4
     : >"$work/asked"
-    status=0
+    rm -f "$work/early"
+    status=0 since=$(date +%s)
     (cd "$work/here" && "$@") >"$work/stdout" 2>"$work/stderr" || status=$?
-    [ "$status" = "$wanted" ] || { echo "$name: status $status, and not $wanted" >&2; exit 1; }
-    [ "$(grep -c run "$work/asked")" = "$builds" ] || { echo "$name: not built $builds times" >&2; exit 1; }
-    [ -z "$error" ] || grep -q "$error" "$work/stderr" || { echo "$name: standard error has no '$error'" >&2; exit 1; }
-    [ "$wanted" = 70 ] || grep -q "^in $work/here\$" "$work/stdout" || { echo "$name: not run here" >&2; exit 1; }
+    [ "$status" = "$wanted" ] || wrong "$name: status $status, and not $wanted"
+    [ "$(grep -c '^end flash_cli$' "$work/asked")" = "$builds" ] || wrong "$name: not built $builds times"
+    [ -z "$error" ] || grep -q "$error" "$work/stderr" || wrong "$name: standard error has no '$error'"
+    [ ! -e "$work/early" ] || wrong "$name: $(cat "$work/early")"
+    case $wanted in
+        70 | 130) ;;
+        *) grep -q "^in $work/here\$" "$work/stdout" || wrong "$name: not run here" ;;
+    esac
+}
+
+# does CRATE COMMANDS: what rt does in a crate from now on, and that this crate is to be built anew.
+does() {
+    echo "$2" >"$work/does-$1"
+    echo "$2" >>"$work/repo/crates/$1/src/lib.rt"
+}
+
+# was_ended CRATE: that the command rt in a crate, which sleeps for a minute, is no more, and was not waited for.
+was_ended() {
+    [ $(($(date +%s) - since)) -lt 50 ] || wrong "$name: $1 went on"
+    ! kill -0 "$(cat "$work/id-$1")" 2>/dev/null || wrong "$name: $1 goes on"
 }
 
 bin=$work/repo/bin/flash_cli
-launched "the first run" 0 1 '^proving and building, crate 1 of 2: low$' "$bin" 0
+launched "the first run" 0 1 '^proving and building, crate 1 of 4: low$' "$bin" 0
 launched "a second run" 0 0 '' "$bin" 0
 ln -s "$bin" "$work/link"
 ln -s link "$work/chain"
@@ -56,19 +85,50 @@ for row in '3 a file could not be read or written' '6 memory ran out' '7 the tex
     launched "status ${row%% *}" "${row%% *}" 0 "^flash_cli: ${row#* }\$" "$bin" "${row%% *}"
 done
 launched "a refusal" 2 0 '' "$bin" 2
-[ ! -s "$work/stderr" ] || { echo "a refusal is told twice" >&2; exit 1; }
+[ ! -s "$work/stderr" ] || wrong "a refusal is told twice"
 rm "$work/repo/crates/low/src/more.rt"
-launched "a deleted source" 0 1 'crate 2 of 2: flash_cli' "$bin" 0
+launched "a deleted source" 0 1 '^proved and built, 4 of 4: flash_cli, [0-9]* s$' "$bin" 0
 echo 'four' >"$work/repo/crates/low/src/lib.rt"
 touch -d '2001-01-01' "$work/repo/crates/low/src/lib.rt"
 launched "a changed source that is older" 0 1 '' "$bin" 0
 echo 'kit-2' >"$work/kit"
 launched "a new kit" 0 1 '' "$bin" 0
 launched "after it" 0 0 '' "$bin" 0
-: >"$work/unproved"
-echo 'five' >"$work/repo/crates/low/src/lib.rt"
-launched "a crate that is not proved" 70 0 'low was not proved' "$bin" 0
-rm "$work/unproved"
-mv "$work/repo/crates.txt" "$work/crates.txt"
+
+# Each of the two crates waits until the other one has begun.
+for row in 'one two' 'two one'; do
+    does "${row% *}" "for _ in 1 2 3 4 5 6 7 8 9; do
+        ! grep -q '^begin ${row#* }\$' '$work/asked' || break
+        sleep 1
+    done
+    grep -q '^begin ${row#* }\$' '$work/asked' || exit 1"
+done
+launched "two crates side by side" 0 1 '' env FLASH_CLI_JOBS=2 "$bin" 0
+does one ''
+does two ''
+launched "one crate at a time" 0 1 '' env FLASH_CLI_JOBS=1 "$bin" 0
+wanted=$(for crate in low one two flash_cli; do printf 'begin %s\nend %s\n' "$crate" "$crate"; done)
+[ "$(cat "$work/asked")" = "$wanted" ] || wrong "one crate at a time: not in turn"
+
+does one "until grep -q '^begin two\$' '$work/asked'; do sleep 1; done; echo 'a goal is left'; exit 1"
+does two 'exec sleep 60'
+launched "a crate that is not proved" 70 0 '^flash_cli: one was not proved' env FLASH_CLI_JOBS=2 "$bin" 0
+grep -q '^a goal is left$' "$work/stderr" || wrong "$name: its log is not shown"
+was_ended two
+for signal in INT TERM; do
+    does one "until grep -q '^begin two\$' '$work/asked'; do sleep 1; done; kill -$signal \$PPID; exec sleep 60"
+    launched "an interrupt by $signal" 130 0 '' env FLASH_CLI_JOBS=2 "$bin" 0
+    was_ended one
+    was_ended two
+done
+does one ''
+does two ''
+launched "no number of crates" 70 0 '^flash_cli: FLASH_CLI_JOBS ' env FLASH_CLI_JOBS=no "$bin" 0
+launched "after an interrupt" 0 1 '' "$bin" 0
+
+cp "$work/repo/crates.txt" "$work/crates.txt"
+printf 'one: two\ntwo: one\nflash_cli: one\n' >"$work/repo/crates.txt"
+launched "crates in a ring" 70 0 '^flash_cli: ' "$bin" 0
+rm "$work/repo/crates.txt"
 launched "no list of crates" 70 0 '^flash_cli: ' "$bin" 0
 echo 'all as wanted'
