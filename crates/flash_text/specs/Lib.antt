@@ -6,3 +6,4 @@ pub mod Text
 pub mod BootText
 pub mod WorkerText
 pub mod UpdateText
+pub mod SweepText

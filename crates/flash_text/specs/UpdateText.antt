@@ -1,5 +1,5 @@
--- The lines of an update and of a sweep: the legs, what the core beside the driver did in them, how
--- each ended, and what boots.
+-- The lines of an update: the legs, what the core beside the driver did in them, how each ended,
+-- and what boots.
 use Rattle.std.specs.Prelude.{ℕ, ◌-◌, List, [], ◌∷◌, ◌++◌, Option, Some, None, codes, decimal, length}
 use Rattle.image_verify.specs.declared.bad.BadImage.{BadImage}
 use Rattle.bus_hub.specs.Room.{Kept}

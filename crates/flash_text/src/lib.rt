@@ -5,6 +5,7 @@ mod boot_text;
 mod image_text;
 mod refusal;
 mod start_text;
+mod sweep_text;
 mod table_text;
 #[cfg(test)]
 mod tests;
@@ -15,6 +16,7 @@ mod worker_text;
 pub use boot_text::{put_booted, put_boots, put_confirmed, put_rejected};
 pub use image_text::{put_image, put_length};
 pub use refusal::Refusal;
+pub use sweep_text::put_sweep;
 pub use table_text::{put_count, put_rows_lines};
 pub use text::{put_entry, put_names, put_refusal, put_text};
 pub use update_text::put_update;

@@ -1,12 +1,15 @@
-//! Texts from outside: each refusal by its line.
+//! Texts from outside: each refusal by its line, and the lines of a sweep.
 
-use crate::{Refusal, put_refusal};
+use crate::{Refusal, put_refusal, put_sweep};
+use arrayvec::ArrayVec;
+use boot_run::Booted;
 use boot_select::Unsettled;
 use core_script::ScriptWhy;
 use image_maker::{MakeNo, PlanWhy};
-use image_verify::BadImage;
+use image_verify::{BadImage, ImageInfo};
 use part_csv::CsvWhy;
 use partition_table::{App, TableBad};
+use power_cut::Sweep;
 use std::alloc::Global;
 use std::test::Fail;
 
@@ -265,5 +268,46 @@ fn each_refusal_has_its_line(rt: HostRuntime) -> Result<(), Fail> {
     for (why, text) in of_boots() {
         assert_eq!(rt; is_line(rt.alloc(), why, text)?, true, "{text}");
     }
+    Ok(())
+}
+
+/// What boots behind a cut: an application of 80 bytes.
+fn booted(app: App) -> Booted {
+    Booted {
+        app,
+        info: ImageInfo {
+            length: 80,
+            entry: 0x4008_0400,
+            flagged: true,
+            segments: ArrayVec::new(),
+            desc: None,
+        },
+        steps: 0,
+    }
+}
+
+/// The lines of the sweep of an update of 80 bytes over a factory application.
+const SWEEP_LINES: &str = "steps 8
+cut 1 boots factory 80
+cut 2 boots factory 80
+cut 3 boots factory 80
+cut 4 boots ota_0 80
+cut 5 boots ota_0 80
+cut 6 boots factory 80
+cut 7 boots factory 80
+cut 8 boots ota_0 80
+";
+
+#[test]
+fn a_sweep_has_a_line_for_each_cut(rt: HostRuntime) -> Result<(), Fail> {
+    let new = App::Ota(0);
+    let old = App::Factory;
+    let mut after = Vec::new(rt.alloc());
+    for app in [old, old, old, new, new, old, old, new] {
+        after.push(booted(app))?;
+    }
+    let mut text = Vec::new(rt.alloc());
+    put_sweep(&mut text, &Sweep { steps: 8, after })?;
+    assert_eq!(rt; text.as_slice() == SWEEP_LINES.as_bytes(), true);
     Ok(())
 }

@@ -1,5 +1,5 @@
-//! An update in which the runner writes nothing, a boot that is cut, and the leg of a device that
-//! failed.
+//! An update and a sweep in which the runner writes nothing, a sweep whose runner finds no memory,
+//! and the leg of a device that failed.
 
 ghost use Rattle.std.specs.Prelude.{◌≡◌, ◌<◌, ◌≤◌, ◌+◌, ◌^◌, [], Err, IfOk, length};
 ghost use Rattle.nor_device.specs.FlashSize.{IsFlashSize};
@@ -38,8 +38,8 @@ fn untouched(alloc: Global, dev: CutNor<RamNor>) -> Result<Ran, Memory>
     })
 }
 
-/// A confirmation that finds no memory.
-fn unconfirmed(_dev: CutNor<RamNor>) -> Result<Ran, Memory>
+/// A leg that finds no memory.
+fn unmade(_dev: CutNor<RamNor>) -> Result<Ran, Memory>
     ensures { result ≡ Err (record {}) }
 {
     Err(Memory)
@@ -59,9 +59,43 @@ fn update_of_nothing(
 {
     let legs = Legs {
         session: |dev: CutNor<RamNor>, _aim: &Aim, _image: &[u8]| untouched(alloc, dev),
-        confirm: |dev: CutNor<RamNor>, _at: &Booted, _write: &Rewrite| unconfirmed(dev),
+        confirm: |dev: CutNor<RamNor>, _at: &Booted, _write: &Rewrite| unmade(dev),
     };
     trial(dev, layout, aim, &[], Upto::Confirm, &legs)
+}
+
+/// A sweep of an image without a byte.
+fn sweep_of_nothing(
+    alloc: Global,
+    flash: &[u8],
+    layout: &Layout,
+    aim: &Aim,
+) -> Result<Sweep, SweepNo>
+    requires size { IsFlashSize (length flash.now) }
+    requires opens { Opens layout.now flash.now aim.now [] }
+{
+    let legs = Legs {
+        session: |dev: CutNor<RamNor>, _aim: &Aim, _image: &[u8]| untouched(alloc, dev),
+        confirm: |dev: CutNor<RamNor>, _at: &Booted, _write: &Rewrite| unmade(dev),
+    };
+    sweep(alloc, flash, 0, layout, aim, &[], &legs)
+}
+
+/// A sweep whose first session finds no memory.
+fn sweep_without_memory(
+    alloc: Global,
+    flash: &[u8],
+    layout: &Layout,
+    aim: &Aim,
+) -> Result<Sweep, SweepNo>
+    requires size { IsFlashSize (length flash.now) }
+    requires opens { Opens layout.now flash.now aim.now [] }
+{
+    let legs = Legs {
+        session: |dev: CutNor<RamNor>, _aim: &Aim, _image: &[u8]| unmade(dev),
+        confirm: |dev: CutNor<RamNor>, _at: &Booted, _write: &Rewrite| unmade(dev),
+    };
+    sweep(alloc, flash, 0, layout, aim, &[], &legs)
 }
 
 /// A flash of 1 MiB.
@@ -156,6 +190,45 @@ fn an_update_of_nothing_boots_what_ran(rt: HostRuntime) -> Result<(), Fail> {
     assert_eq!(rt;
         told(&after_nothing(alloc, flash)),
         Some((1, leg, App::Factory, 80))
+    );
+    Ok(())
+}
+
+/// Why an image without a byte is not swept: by a runner that writes nothing, and by one that finds
+/// no memory.
+fn refusals(alloc: Global, flash: &[u8], layout: &Layout, aim: &Aim) -> Option<(SweepNo, SweepNo)>
+    requires size { IsFlashSize (length flash.now) }
+    requires opens { Opens layout.now flash.now aim.now [] }
+{
+    let nothing = sweep_of_nothing(alloc, flash, layout, aim).err()?;
+    let memory = sweep_without_memory(alloc, flash, layout, aim).err()?;
+    Some((nothing, memory))
+}
+
+/// The same, of a flash on which an update may begin.
+fn unswept(alloc: Global, flash: &[u8]) -> Option<(SweepNo, SweepNo)>
+    requires size { IsFlashSize (length flash.now) }
+{
+    tables_open_updates();
+    let Ok(layout) = layout_in(flash) else {
+        return None;
+    };
+    let mut bytes = filled(alloc, 0, flash.len()).ok()?;
+    bytes.copy_from_slice(flash);
+    let mut dev = CutNor::new(RamNor::of_bytes(bytes, 2), None, 0, None);
+    let Ok(aim) = aim(&mut dev, &layout, 0) else {
+        return None;
+    };
+    refusals(alloc, flash, &layout, &aim)
+}
+
+#[test]
+fn a_sweep_of_nothing_is_refused(rt: HostRuntime) -> Result<(), Fail> {
+    let alloc = rt.alloc();
+    let flash = flash_of(alloc)?;
+    assert_eq!(rt;
+        unswept(alloc, &flash),
+        Some((SweepNo::Refused(LegEnd::Empty), SweepNo::Memory))
     );
     Ok(())
 }
