@@ -66,26 +66,29 @@ session_is : (rows : List Row) (script : List Action) (driver : ℕ) (layout : P
     ran
     → IsDuoSession rows script driver layout aim image dev ran
 session_is rows script driver layout aim image row dev ran is l = record {
-  ran_is = l.ran_is;
   leg = record {
-    base = l.leg.base;
-    map = l.leg.map;
-    opening = l.leg.opening;
-    mapped = shows layout aim.running row aim.info l.leg.base.map is l.leg.mapped;
-    left = l.leg.left;
-    right = l.leg.right;
-    drove = l.leg.drove;
-    worked = l.leg.worked;
-    driver_share = l.leg.driver_share;
-    worker_share = l.leg.worker_share;
-    back = l.leg.back;
-    same = l.leg.same;
-    stands = l.leg.stands;
-    legal = l.leg.legal;
-    moments = l.leg.moments;
+    ran_is = l.ran_is;
+    leg = record {
+      base = l.leg.base;
+      map = l.leg.map;
+      opening = l.leg.opening;
+      mapped = shows layout aim.running row aim.info l.leg.base.map is l.leg.mapped;
+      left = l.leg.left;
+      right = l.leg.right;
+      drove = l.leg.drove;
+      worked = l.leg.worked;
+      driver_share = l.leg.driver_share;
+      worker_share = l.leg.worker_share;
+      back = l.leg.back;
+      same = l.leg.same;
+      stands = l.leg.stands;
+      legal = l.leg.legal;
+      moments = l.leg.moments;
+    };
+    both = l.both;
+    done = l.done;
   };
-  both = l.both;
-  done = l.done;
+  parked = l.parked;
 }
 
 -- ---- a confirmation
@@ -127,26 +130,29 @@ confirm_is : (rows : List Row) (script : List Action) (driver : ℕ) (layout : P
     → IsDuoLeg rows script driver layout (Confirm write) row.offset at.info.segments.items dev ran
     → IsDuoConfirm rows script driver layout at write dev ran
 confirm_is rows script driver layout at write row dev ran is l = record {
-  ran_is = l.ran_is;
   leg = record {
-    base = l.leg.base;
-    map = l.leg.map;
-    opening = l.leg.opening;
-    mapped = shows layout at.app row at.info l.leg.base.map is l.leg.mapped;
-    left = l.leg.left;
-    right = l.leg.right;
-    drove = l.leg.drove;
-    worked = l.leg.worked;
-    driver_share = l.leg.driver_share;
-    worker_share = l.leg.worker_share;
-    back = l.leg.back;
-    same = l.leg.same;
-    stands = l.leg.stands;
-    legal = l.leg.legal;
-    moments = l.leg.moments;
+    ran_is = l.ran_is;
+    leg = record {
+      base = l.leg.base;
+      map = l.leg.map;
+      opening = l.leg.opening;
+      mapped = shows layout at.app row at.info l.leg.base.map is l.leg.mapped;
+      left = l.leg.left;
+      right = l.leg.right;
+      drove = l.leg.drove;
+      worked = l.leg.worked;
+      driver_share = l.leg.driver_share;
+      worker_share = l.leg.worker_share;
+      back = l.leg.back;
+      same = l.leg.same;
+      stands = l.leg.stands;
+      legal = l.leg.legal;
+      moments = l.leg.moments;
+    };
+    both = l.both;
+    done = l.done;
   };
-  both = l.both;
-  done = l.done;
+  parked = l.parked;
 }
 
 -- ---- by the layout that a call asks for

@@ -13,6 +13,7 @@ mod ShareEndLemmas
 mod DriveLemmas
 mod BeginLemmas
 mod HoldsLemmas
+mod ParkedLemmas
 mod OutcomeLemmas
 mod NumberLemmas
 mod DuoLemmas

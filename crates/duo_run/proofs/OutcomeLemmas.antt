@@ -47,11 +47,23 @@ use Rattle.duo_run.specs.Both.{HaveRun, IsClosed, IsDuoLeg, MayBegin, StandsFor,
 use Rattle.duo_run.specs.Driving.{ended_as}
 use Rattle.duo_run.specs.Jobs.{DriverShare, HasDriven, HoldsFor, end_for, moves_for}
 use Rattle.duo_run.specs.Pages.{application_pages, probe_in}
+use Rattle.duo_run.specs.Parked.{IsParkedRun}
 use Rattle.duo_run.specs.Worker.{ShareFrom, WorkerShare}
 use Rattle.duo_run.specs.Works.{HasWorked}
 use Rattle.duo_run.proofs.BeginLemmas.{begins_steps}
 use Rattle.duo_run.proofs.HoldsLemmas.{IsOf, good_holds, stays_of}
 use Rattle.duo_run.proofs.ShareEndLemmas.{HasRefusal, stopped_refused, stops_refused}
+
+-- a run of both cores, by the shares of driver and other core
+same_shares : (driver : ℕ) → driver < 2 → (left right left' right' : List Did)
+    → share_of driver left right ≡ share_of driver left' right'
+    → share_of (1 - driver) left right ≡ share_of (1 - driver) left' right'
+    → IsParkedRun left' right' → IsParkedRun left right
+same_shares zero small left right left' right' a b run =
+    subst (λ (z : List Did × List Did). IsParkedRun z.0 z.1) (λ i. (sym a i, sym b i)) run
+same_shares (suc zero) small left right left' right' a b run =
+    subst (λ (z : List Did × List Did). IsParkedRun z.0 z.1) (λ i. (sym b i, sym a i)) run
+same_shares (suc (suc d)) small left right left' right' a b run = absurd (omega arith)
 
 -- ---- ends
 
@@ -218,7 +230,7 @@ module _ (rows : List Row) (script : List Action) (driver : ℕ) (layout : Place
   module _ (left right : Core) (driven : Result LegEnd StepNo)
       (worked : Result (Unit {0}) StepNo) (ran : Ran)
       (closed : IsClosed dev.steps (whole_by driven) left right ran)
-      (shares : Shares left right driven worked) where
+      (run : IsParkedRun left.share right.share) (shares : Shares left right driven worked) where
     abbrev last : ℕ
     last = ran.dev.steps
 
@@ -301,22 +313,68 @@ module _ (rows : List Row) (script : List Action) (driver : ℕ) (layout : Place
       off_is = refl;
     }
 
-    leg : IsLeg (DriverShare layout purpose (probe_in notes)) (WorkerShare rows reset script) driver
-        (λ m. m ≡ application_pages offset notes)
-        (HoldsFor layout dev.inner.bytes purpose (open_addresses rows)) dev ran.dev ran.journal
-    leg =
-        subst (λ (journal : Kept). IsLeg (DriverShare layout purpose (probe_in notes))
-        (WorkerShare rows reset script) driver (λ (m : Map). m ≡ application_pages offset notes)
+    -- a leg with this journal, and the run of both cores behind its shares
+    abbrev ParkedLeg : Kept → Type 0
+    ParkedLeg journal =
+        (leg : IsLeg (DriverShare layout purpose (probe_in notes)) (WorkerShare rows reset script)
+        driver (λ (m : Map). m ≡ application_pages offset notes)
         (HoldsFor layout dev.inner.bytes purpose (open_addresses rows)) dev ran.dev journal)
-        (sym closed.journal)
-        (leg_of part_of Grants course_after IsGood torn_good made_good (IsOf rows layout purpose)
-        (stays_of rows layout purpose) (DriverShare layout purpose (probe_in notes))
-        (WorkerShare rows reset script) driver (λ (m : Map). m ≡ application_pages offset notes)
+        × IsParkedRun leg.left leg.right
+
+    -- a leg of which it is told that its shares are those of both cores
+    told_leg : IsLeg
+        (λ r items. DriverShare layout purpose (probe_in notes) r items
+        × (items ≡ share_of driver left.share right.share))
+        (λ r items. WorkerShare rows reset script r items
+        × (items ≡ share_of (1 - driver) left.share right.share))
+        driver (λ (m : Map). m ≡ application_pages offset notes)
+        (HoldsFor layout dev.inner.bytes purpose (open_addresses rows)) dev ran.dev
+        closed.bus.journal
+    told_leg =
+        leg_of part_of Grants course_after IsGood torn_good made_good (IsOf rows layout purpose)
+        (stays_of rows layout purpose)
+        (λ r items. DriverShare layout purpose (probe_in notes) r items
+        × (items ≡ share_of driver left.share right.share))
+        (λ r items. WorkerShare rows reset script r items
+        × (items ≡ share_of (1 - driver) left.share right.share))
+        driver (λ (m : Map). m ≡ application_pages offset notes)
         (HoldsFor layout dev.inner.bytes purpose (open_addresses rows)) dev ran.dev closed.bus base
         base.map (empty_journal base.left_room base.right_room) base.duty left.share right.share
         (ended_as driven) (fault_of worked) opening refl stands closed.idle closed.same legal
         (record { rows_are = refl; layout_is = refl; purpose_is = refl })
-        (good_holds dev.inner.bytes rows layout purpose begins.for) shares.drove shares.works)
+        (good_holds dev.inner.bytes rows layout purpose begins.for) (shares.drove, refl)
+        (shares.works, refl)
+
+    parked_leg : ParkedLeg closed.bus.journal
+    parked_leg = (
+      record {
+        base = told_leg.base;
+        map = told_leg.map;
+        opening = told_leg.opening;
+        mapped = told_leg.mapped;
+        left = told_leg.left;
+        right = told_leg.right;
+        drove = told_leg.drove;
+        worked = told_leg.worked;
+        driver_share = told_leg.driver_share.0;
+        worker_share = told_leg.worker_share.0;
+        back = told_leg.back;
+        same = told_leg.same;
+        stands = told_leg.stands;
+        legal = told_leg.legal;
+        moments = told_leg.moments;
+      },
+      same_shares driver two told_leg.left told_leg.right left.share right.share
+          told_leg.driver_share.1 told_leg.worker_share.1 run,
+    )
+
+    leg_here : ParkedLeg ran.journal
+    leg_here = subst ParkedLeg (sym closed.journal) parked_leg
+
+    abbrev leg : IsLeg (DriverShare layout purpose (probe_in notes)) (WorkerShare rows reset script)
+        driver (λ (m : Map). m ≡ application_pages offset notes)
+        (HoldsFor layout dev.inner.bytes purpose (open_addresses rows)) dev ran.dev ran.journal
+    leg = leg_here.0
 
     unbroken : IsWholeEnd ran.leg.end → IsUnbroken dev last
     unbroken is = unbroken_by dev last (end_for layout purpose) ran.leg.end is ran_is.end
@@ -351,6 +409,7 @@ module _ (rows : List Row) (script : List Action) (driver : ℕ) (layout : Place
     is_leg = record {
       ran_is = ran_is;
       leg = leg;
+      parked = leg_here.1;
       both = λ is. (
         drove_whole rows script driver layout purpose (probe_in notes)
             (λ (m : Map). m ≡ application_pages offset notes)
@@ -438,9 +497,11 @@ module _ (rows : List Row) (script : List Action) (driver : ℕ) (layout : Place
       -- from the opening to the device that came back
       pub outcome : (before : ℕ) (whole : LegEnd) (ran : Ran) → before ≡ dev.steps
           → whole ≡ whole_by driven → IsClosed before whole left right ran
+          → IsParkedRun left.share right.share
           → IsDuoLeg rows script driver layout purpose offset notes dev ran
-      outcome before whole ran is ends closed =
+      outcome before whole ran is ends closed parked =
           is_leg left right driven worked ran
           (subst (λ (z : ℕ × LegEnd). IsClosed z.0 z.1 left right ran) (λ i. (is i, ends i)) closed)
+          parked
           (shares_at driver refl two words first second left right driven worked one_here other_here
           run)

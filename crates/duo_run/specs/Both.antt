@@ -32,6 +32,7 @@ use Rattle.power_cut.specs.Device.{IsRan, IsReady, IsUnbroken, IsWholeEnd, MayEn
 use Rattle.power_cut.specs.Leg.{IsLeg, IsSameFlash}
 use Rattle.duo_run.specs.Jobs.{CanDrive, DriverShare, HasDriven, HoldsFor, driver_room, end_for, length_for}
 use Rattle.duo_run.specs.Pages.{AreInPlace, application_pages, probe_in}
+use Rattle.duo_run.specs.Parked.{IsParkedRun}
 use Rattle.duo_run.specs.Room.{worker_room}
 use Rattle.duo_run.specs.Worker.{WorkerShare}
 use Rattle.duo_run.specs.Works.{CanWork, HasWorked}
@@ -147,6 +148,7 @@ pub record IsDuoLeg (rows : List Row) (script : List Action) (driver : ℕ) (lay
   pub leg : IsLeg (DriverShare layout purpose (probe_in notes)) (WorkerShare rows reset script)
       driver (λ m. m ≡ application_pages offset notes)
       (HoldsFor layout old.inner.bytes purpose (open_addresses rows)) old ran.dev ran.journal
+  pub parked : IsParkedRun leg.left leg.right
   pub both : IsWholeEnd ran.leg.end → (leg.drove ≡ Ok tt) × (leg.worked ≡ Ok tt)
   pub done : IsWholeEnd ran.leg.end
       → StandsBeside old.inner.bytes (steps_for layout purpose) [] (open_addresses rows)

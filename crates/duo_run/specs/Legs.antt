@@ -23,6 +23,7 @@ use Rattle.power_cut.specs.Kept.{IsConfirmLeg, IsConfirming, IsSessionLeg, IsSta
 use Rattle.power_cut.specs.Update.{Opens}
 use Rattle.duo_run.specs.Both.{HasTable}
 use Rattle.duo_run.specs.Pages.{application_pages, probe_in}
+use Rattle.duo_run.specs.Parked.{IsParkedRun}
 use Rattle.duo_run.specs.Worker.{WorkerShare}
 
 -- the share of the core that drives a session
@@ -55,16 +56,16 @@ pub record MayAffirm (rows : List Row) (layout : Places) (at : Booted) (write : 
   pub started : IsStarted layout dev.inner.bytes at
   pub confirming : IsConfirming layout dev.inner.bytes write
 
--- a session of both cores
-abbrev pub IsDuoSession : List Row → List Action → ℕ → Places → Aim → List ℕ → CutDevice Ram → Ran
-    → Type 0
-IsDuoSession rows script driver layout aim image old ran =
-    IsSessionLeg (SessionShare layout aim image) (WorkerShare rows reset script) driver
-    (ShowsApp layout aim.running aim.info) layout (open_addresses rows) aim image old ran
+-- a session of both cores: the leg, and the run of the parking machine behind both shares of it
+pub record IsDuoSession (rows : List Row) (script : List Action) (driver : ℕ) (layout : Places)
+    (aim : Aim) (image : List ℕ) (old : CutDevice Ram) (ran : Ran) : Type 0 where
+  pub leg : IsSessionLeg (SessionShare layout aim image) (WorkerShare rows reset script) driver
+      (ShowsApp layout aim.running aim.info) layout (open_addresses rows) aim image old ran
+  pub parked : IsParkedRun leg.leg.left leg.leg.right
 
 -- a confirmation of both
-abbrev pub IsDuoConfirm : List Row → List Action → ℕ → Places → Booted → Rewrite → CutDevice Ram
-    → Ran → Type 0
-IsDuoConfirm rows script driver layout at write old ran =
-    IsConfirmLeg (ConfirmShare layout at write) (WorkerShare rows reset script) driver
-    (ShowsApp layout at.app at.info) layout (open_addresses rows) write old ran
+pub record IsDuoConfirm (rows : List Row) (script : List Action) (driver : ℕ) (layout : Places)
+    (at : Booted) (write : Rewrite) (old : CutDevice Ram) (ran : Ran) : Type 0 where
+  pub leg : IsConfirmLeg (ConfirmShare layout at write) (WorkerShare rows reset script) driver
+      (ShowsApp layout at.app at.info) layout (open_addresses rows) write old ran
+  pub parked : IsParkedRun leg.leg.left leg.leg.right

@@ -6,5 +6,6 @@ pub mod Ends
 pub mod Fresh
 pub mod Driving
 pub mod Jobs
+pub mod Parked
 pub mod Both
 pub mod Legs

@@ -10,6 +10,7 @@ ghost use Rattle.duo_run.specs.Jobs.{CanDrive, HasDriven, purpose_of};
 ghost use Rattle.duo_run.specs.Works.{CanWork, HasWorked};
 ghost use Rattle.flash_ops.specs.Told.{fault_of};
 ghost use Rattle.duo_run.specs.Pages.{probe_in};
+ghost use Rattle.duo_run.specs.Parked.{IsParkedRun};
 ghost use Rattle.duo_run.specs.Both.{CanRunBoth, HaveRun, IsClosed, IsDuoLeg, MayBegin, base_with, rooms_of, whole_by};
 
 use crate::job::{Job, duty_for, room_for, run_driver};
@@ -168,7 +169,8 @@ fn end_leg<'a>(
     requires left { (left.table ≡ gates) × (left.core ≡ 0) }
     requires right { (right.table ≡ gates) × (right.core ≡ 1) }
     requires base { OnBase left.base (λ b. b.steps ≡ before) }
-    ensures { IsClosed before whole left.entry right.entry result }
+    ensures closed { IsClosed before whole left.entry right.entry result }
+    ensures parked { IsParkedRun left.entry.share right.entry.share }
 {
     let bus = gates.close(left, right);
     let (mut dev, journal, _duty) = bus.into_parts();

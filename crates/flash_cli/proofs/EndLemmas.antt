@@ -146,7 +146,8 @@ behind_boot o driver cut fail false s l dev t one done led ends =
     rw (ends.legs_are, total) led.ends
 behind_boot o driver cut fail true s l dev t one done led ends =
     let c = ends.ran.leg in
-    let more = leads cut fail (s.steps + l.steps) dev ends.ran.dev Done c one led.chooses ends.confirmed.ran_is in
+    let more = leads cut fail (s.steps + l.steps) dev ends.ran.dev Done c one led.chooses
+    ends.confirmed.leg.ran_is in
     let total : s.steps + (l.steps + (c.steps + 0)) ≡ s.steps + l.steps + c.steps = omega arith in
     rw (ends.ends.legs_are, total) more.ends
 

@@ -116,7 +116,7 @@ behind_boot : (o : Opening) (driver : ℕ) (b : Bool) (legs : List Leg) (dev : C
     → IsReadable t.confirm
 behind_boot o driver false legs dev t ends = rw ends.confirm_is tt
 behind_boot o driver true legs dev t ends =
-    let leg = ends.confirmed.leg in
+    let leg = ends.confirmed.leg.leg in
     rw ends.ends.confirm_is (leg_readable _ leg.base leg.left leg.right leg.stands)
 
 behind_session : (o : Opening) (driver : ℕ) (b : Bool) (upto : Upto) (session : Leg)
@@ -131,7 +131,7 @@ behind_session o driver true upto session dev t ends =
 pub session_readable : (options : Options) (o : Opening) (t : Trial) → IsUpdate options o t
     → IsReadable (Some t.session)
 session_readable options o t update =
-    let leg = update.trial.written.leg in
+    let leg = update.trial.written.leg.leg in
     rw update.trial.journal (leg_readable _ leg.base leg.left leg.right leg.stands)
 
 pub confirm_readable : (options : Options) (o : Opening) (t : Trial) → IsUpdate options o t

@@ -84,7 +84,7 @@ module _ (rows : List Row) (script : List Action) (driver : ℕ) (layout : Place
       session_keeps (SessionShare layout aim image) (WorkerShare rows reset script) driver
       (ShowsApp layout aim.running aim.info) layout (open_addresses rows)
       (flash_apart first rows layout has.table (table_lays first rows layout has))
-      aim image old ran is
+      aim image old ran is.leg
 
   -- and so does a confirmation
   pub duo_affirms : (at : Booted) (write : Rewrite) (old : CutDevice Ram) (ran : Ran)
@@ -94,7 +94,7 @@ module _ (rows : List Row) (script : List Action) (driver : ℕ) (layout : Place
       confirm_keeps (ConfirmShare layout at write) (WorkerShare rows reset script) driver
       (ShowsApp layout at.app at.info) layout (open_addresses rows)
       (flash_apart first rows layout has.table (table_lays first rows layout has))
-      write old ran is
+      write old ran is.leg
 
 -- an update that began, by its legs and by what it left
 pub made_update : (options : Options) (o : CodeOpening) (image : List ℕ) (t : Trial)
@@ -114,7 +114,8 @@ made_update options o image t sound begun trial boots after installed = record {
   trial = trial;
   ends = update_ends (opening_with image o) options.driver options.cut options.fail
       (session_end (slot_size o.layout o.aim.slot) image) options.upto o.device trial.session t
-      sound.one begun.fresh.cut begun.fresh.fail begun.fresh.steps trial.written.ran_is trial.behind;
+      sound.one begun.fresh.cut begun.fresh.fail begun.fresh.steps trial.written.leg.ran_is
+      trial.behind;
   boots = boots;
   after = after;
   installed = installed;

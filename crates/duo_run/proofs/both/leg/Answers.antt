@@ -124,5 +124,6 @@ returns g c =
           c.in_ok-gates.right c.run_cores-cores.result.0.0 c.run_cores-cores.result.0.1
           c.run_cores-cores.result.1.0 c.run_cores-cores.result.1.1 c.in_ok-gates.ensures.left
           c.in_ok-gates.ensures.right c.run_cores-cores.ensures _ c.whole_by.result c.end_leg.result
-          c.steps-before.ensures.exact c.whole_by.ensures.exact c.end_leg.ensures;
+          c.steps-before.ensures.exact c.whole_by.ensures.exact c.end_leg.ensures.closed
+          c.end_leg.ensures.parked;
     }
