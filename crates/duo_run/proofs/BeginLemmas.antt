@@ -51,7 +51,7 @@ use Rattle.duo_run.proofs.PageLemmas.{in_larger, probe_is_fixed}
 
 -- ---- sizes
 
-largest : (n : ℕ) → IsFlashSize n → n ≤ 2 ^ 24
+pub largest : (n : ℕ) → IsFlashSize n → n ≤ 2 ^ 24
 largest n (inl is) = omega arith
 largest n (inr (inl is)) = omega arith
 largest n (inr (inr (inl is))) = omega arith
@@ -121,7 +121,7 @@ needed layout first (Confirm write) probe placed for =
     (confirm_long layout first write placed for)
 
 -- the steps of the moves are those that the job is for
-moves_steps : (layout : Places) (first : List ℕ) (purpose : Purpose) (probe : Option ℕ)
+pub moves_steps : (layout : Places) (first : List ℕ) (purpose : Purpose) (probe : Option ℕ)
     → IsPlaced layout (length first) → IsFor layout first purpose
     → steps_of (moves_for layout purpose probe) ≡ steps_for layout purpose
 moves_steps layout first (Install aim image) probe placed for =

@@ -19,3 +19,7 @@ mod NumberLemmas
 mod DuoLemmas
 mod DrivingLemmas
 mod WriteAllLemmas
+pub mod TakenLemmas
+pub mod LegCountLemmas
+pub mod TakenLegs
+pub mod FewStepsLemmas
