@@ -15,6 +15,7 @@ use Rattle.flash_steps.proofs.WriteLemmas.{count_of_write}
 use Rattle.core_script.specs.declared.action.Action.{Action}
 use Rattle.core_script.specs.declared.action.Action.TheVariants.{Fetch, Mask, Irq, Map, Unmap, Write, Erase}
 use Rattle.nor_device.specs.declared.step.Step.{Step}
+use Rattle.nor_device.specs.FlashSize.{IsFlashSize}
 use Rattle.partition_table.specs.declared.app.App.TheVariants.{Ota}
 use Rattle.boot_run.specs.declared.aims.Aim.{Aim}
 use Rattle.boot_run.proofs.FrameLemmas.{stands_inside}
@@ -23,6 +24,7 @@ use Rattle.update_steps.proofs.SessionLemmas.{driver_is}
 use Rattle.ota_session.proofs.ImageLemmas.{most_steps}
 use Rattle.power_cut.specs.Update.{Opens}
 use Rattle.duo_run.specs.Worker.{action_steps, worker_steps}
+use Rattle.duo_run.proofs.BeginLemmas.{largest}
 
 -- bytes lie in no more pages than they are, and two
 pub few_pages : (at len : ℕ) → pages_in at len ≤ len + 2
@@ -74,21 +76,23 @@ module _ (flash : ℕ) (rows : List Row) (fits : FitsFlash flash rows) where
   action_few (Write label offset bytes) = write_few label.items offset bytes
   action_few (Erase label offset len) = erase_few label.items offset len
 
-  -- the steps of a script in a flash of 16 MiB at most
-  pub worker_few : flash ≤ 2 ^ 24 → (script : List Action)
+  -- the steps of a script
+  pub worker_few : IsFlashSize flash → (script : List Action)
       → length (worker_steps rows script) ≤ 2 ^ 25 * length script
-  worker_few small [] = omega arith
-  worker_few small (action ∷ later) =
+  worker_few sized [] = omega arith
+  worker_few sized (action ∷ later) =
+      let small = largest flash sized in
       let here = action_few action in
-      let rest = worker_few small later in
+      let rest = worker_few sized later in
       let all = length-append (action_steps rows action) (worker_steps rows later) in
       omega (arith, small, here, rest, all)
 
--- the steps of an update of such a flash
+-- those of an update
 pub update_few : (layout : Places) (flash : List ℕ) (aim : Aim) (image : List ℕ)
-    → Opens layout flash aim image → length flash ≤ 2 ^ 24
+    → Opens layout flash aim image → IsFlashSize (length flash)
     → length (driver_steps layout aim image) ≤ 2 ^ 26
-update_few layout flash aim image opens small =
+update_few layout flash aim image opens sized =
+    let small = largest (length flash) sized in
     let row = opens.begins.row in
     let inside = stands_inside (length flash) row
     (opens.placed.stands (Ota aim.slot) row opens.begins.row_is) in

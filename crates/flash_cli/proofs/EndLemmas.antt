@@ -82,19 +82,19 @@ unspent_same (Some k) n ahead =
     let yes : nat_lt n k ≡ true = grind (arith, nat_tests) in rw yes refl
 
 -- the chosen steps of an update, of a device that made so many
-record Chooses (cut fail : Option ℕ) (n : ℕ) (dev : CutDevice Ram) : Type 0 where
-  cut_is : dev.cut ≡ cut
-  fail_is : dev.fail ≡ fail
-  steps_are : dev.steps ≡ n
+pub record Chooses (cut fail : Option ℕ) (n : ℕ) (dev : CutDevice Ram) : Type 0 where
+  pub cut_is : dev.cut ≡ cut
+  pub fail_is : dev.fail ≡ fail
+  pub steps_are : dev.steps ≡ n
 
 -- a leg on such a device: it ends so, and leaves such a device
-record Leads (cut fail : Option ℕ) (n : ℕ) (whole : LegEnd) (new : CutDevice Ram) (end : LegEnd)
+pub record Leads (cut fail : Option ℕ) (n : ℕ) (whole : LegEnd) (new : CutDevice Ram) (end : LegEnd)
     : Type 0 where
-  chooses : Chooses cut fail n new
-  ends : end ≡ chosen_end cut fail n whole
-  ahead : end ≡ Done → IsAhead cut n × (IsAhead fail n × (whole ≡ Done))
+  pub chooses : Chooses cut fail n new
+  pub ends : end ≡ chosen_end cut fail n whole
+  pub ahead : end ≡ Done → IsAhead cut n × (IsAhead fail n × (whole ≡ Done))
 
-leads : (cut fail : Option ℕ) (n : ℕ) (old new : CutDevice Ram) (whole : LegEnd) (leg : Leg)
+pub leads : (cut fail : Option ℕ) (n : ℕ) (old new : CutDevice Ram) (whole : LegEnd) (leg : Leg)
     → NotBoth cut fail → Chooses cut fail n old → IsRan old new whole leg
     → Leads cut fail (n + leg.steps) whole new leg.end
 leads cut fail n old new whole leg one chooses ran =
@@ -113,7 +113,7 @@ leads cut fail n old new whole leg one chooses ran =
     }
 
 -- the device with its power on again
-again : (cut fail : Option ℕ) (n : ℕ) (whole : LegEnd) (dev : CutDevice Ram) (end : LegEnd)
+pub again : (cut fail : Option ℕ) (n : ℕ) (whole : LegEnd) (dev : CutDevice Ram) (end : LegEnd)
     → Leads cut fail n whole dev end → end ≡ Done → Chooses cut fail n (restarted dev)
 again cut fail n whole dev end led done =
     let ahead = led.ahead done in
@@ -123,7 +123,7 @@ again cut fail n whole dev end led done =
       steps_are = led.chooses.steps_are;
     }
 
-done_is : (end : LegEnd) → is_done end ≡ true → end ≡ Done
+pub done_is : (end : LegEnd) → is_done end ≡ true → end ≡ Done
 done_is Done is = refl
 done_is (Device k) is = absurd (cc)
 done_is (Cut k) is = absurd (cc)
@@ -131,7 +131,7 @@ done_is (FirstByte byte) is = absurd (cc)
 done_is Empty is = absurd (cc)
 done_is (Bad why) is = absurd (cc)
 
-second_true : (a b : Bool) → (a && b) ≡ true → b ≡ true
+pub second_true : (a b : Bool) → (a && b) ≡ true → b ≡ true
 second_true true b is = is
 second_true false b is = absurd (cc)
 

@@ -16,5 +16,7 @@ pub mod EndLemmas
 pub mod ServedLemmas
 pub mod OpeningLemmas
 pub mod TrialLemmas
+pub mod TakenLemmas
+pub mod CountLemmas
 pub mod RunLemmas
 pub mod UpdateLaws

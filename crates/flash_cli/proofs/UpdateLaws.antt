@@ -15,7 +15,7 @@ use Rattle.flash_cli.specs.declared.status.Status.{Status}
 use Rattle.flash_cli.specs.declared.status.Status.TheVariants.{DeviceFault, PowerCut}
 use Rattle.flash_cli.specs.declared.update_words.Options.{Options}
 use Rattle.flash_cli.specs.Opening.{AreOptions, Opening}
-use Rattle.flash_cli.specs.Updating.{IsUpdate, chosen_end, last_end, status_by, steps_in}
+use Rattle.flash_cli.specs.Updating.{IsUpdate, chosen_end, count_of, last_end, status_by}
 use Rattle.flash_cli.specs.UpdateLaws.{CutIsReached, ElseByImage, FailureIsReached}
 use Rattle.flash_cli.proofs.EndLemmas.{unbroken_end}
 
@@ -103,21 +103,21 @@ pub cut_reached : CutIsReached
 cut_reached options o t k sound is =
     let whole = session_end (slot_size o.layout is.aim.slot) o.image in
     let ends = ap status_by is.ends in (
-      λ status. cut_only options.cut options.fail (steps_in t.legs.items) k whole
+      λ status. cut_only options.cut options.fail (count_of options o is.aim) k whole
           (whole_session (slot_size o.layout is.aim.slot) o.image) (sym ends ∙ status),
-      λ chosen. ends ∙ cut_then options.cut options.fail (steps_in t.legs.items) k whole chosen.0 chosen.1,
+      λ chosen. ends ∙ cut_then options.cut options.fail (count_of options o is.aim) k whole chosen.0 chosen.1,
     )
 
 pub failure_reached : FailureIsReached
 failure_reached options o t k sound is =
     let whole = session_end (slot_size o.layout is.aim.slot) o.image in
     let ends = ap status_by is.ends in (
-      λ status. failure_only options.cut options.fail (steps_in t.legs.items) k whole
+      λ status. failure_only options.cut options.fail (count_of options o is.aim) k whole
           (whole_session (slot_size o.layout is.aim.slot) o.image) (sym ends ∙ status),
-      λ chosen. ends ∙ failure_then options.cut options.fail (steps_in t.legs.items) k whole sound.one
+      λ chosen. ends ∙ failure_then options.cut options.fail (count_of options o is.aim) k whole sound.one
           chosen.0 chosen.1,
     )
 
 pub else_by_image : ElseByImage
 else_by_image options o t is cut_ahead fail_ahead =
-    ap status_by (is.ends ∙ unbroken_end options.cut options.fail (steps_in t.legs.items) _ cut_ahead fail_ahead)
+    ap status_by (is.ends ∙ unbroken_end options.cut options.fail (count_of options o is.aim) _ cut_ahead fail_ahead)

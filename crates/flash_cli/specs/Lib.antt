@@ -4,6 +4,7 @@ pub mod Status
 pub mod Laid
 pub mod Opening
 pub mod Legs
+pub mod StepCount
 pub mod Choice
 pub mod Text
 pub mod Answer

@@ -13,8 +13,10 @@ use Rattle.power_cut.specs.declared.legs.LegEnd.{LegEnd}
 use Rattle.power_cut.specs.declared.legs.LegEnd.TheVariants.{Done as DoneEnd, Device, Cut, FirstByte as FirstByteEnd, Empty as EmptyEnd, Bad}
 use Rattle.power_cut.specs.declared.legs.Upto.TheVariants.{Boot as UptoBoot}
 use Rattle.power_cut.specs.declared.outcome.Trial.{Trial}
+use Rattle.power_cut.specs.Installed.{installed_flash}
 use Rattle.power_cut.specs.Update.{BootsEither, session_end, slot_size}
 use Rattle.power_cut.specs.Whole.{AreDone, BootsNew, IsTrial}
+use Rattle.duo_run.specs.Worker.{worker_steps}
 use Rattle.flash_text.specs.declared.refusal.Refusal.{Refusal}
 use Rattle.flash_text.specs.declared.refusal.Refusal.TheVariants.{Absent as AbsentFile, Empty, FirstByte, Image}
 use Rattle.flash_text.specs.UpdateText.{update_text}
@@ -30,6 +32,7 @@ use Rattle.flash_cli.specs.Report.{IsCountedFailure}
 use Rattle.flash_cli.specs.UpdateWords.{Update}
 use Rattle.flash_cli.specs.Opening.{AimsIn, IsFresh, Opening, opening_of}
 use Rattle.flash_cli.specs.Legs.{Confirms, Writes}
+use Rattle.flash_cli.specs.StepCount.{IsCounted, update_count}
 
 -- what an update reads, and what it begins with, or why it may not begin
 abbrev pub update_reading : Update → Reading (Result Opening Refusal)
@@ -48,6 +51,11 @@ abbrev pub steps_in : List Leg → ℕ
 steps_in [] = 0
 steps_in (leg ∷ legs) = leg.steps + steps_in legs
 
+-- how many steps an update with these options and this aim has, by its files and its words
+abbrev pub count_of : Options → Opening → Aim → ℕ
+count_of options o aim =
+    update_count o.layout aim o.image (worker_steps o.rows o.script) options.upto o.flash
+
 -- how an update of so many steps ends: in the step that was chosen for a loss of power or for a
 -- failure, where that was begun; else as one does in which nothing broke off
 abbrev pub chosen_end : Option ℕ → Option ℕ → ℕ → LegEnd → LegEnd
@@ -56,7 +64,9 @@ chosen_end None (Some k) steps whole = if nat_le k steps then Device k else whol
 chosen_end None None steps whole = whole
 
 -- an update with these options that began so: the session, the boot and the confirmation of a
--- device with the flash, as far as they go, and what boots of the flash that they left
+-- device with the flash, as far as they go. It has as many steps as the files and the words give,
+-- and ends in the chosen one where there are so many; what boots of the flash that is left; and where
+-- all legs were made whole, this flash is a function of the files and the words
 pub record IsUpdate (options : Options) (o : Opening) (t : Trial) : Type 0 where
   pub aim : Aim
   pub aims : AimsIn o.flash o.layout (length o.image) aim
@@ -65,13 +75,20 @@ pub record IsUpdate (options : Options) (o : Opening) (t : Trial) : Type 0 where
   pub trial : IsTrial (Writes o options.driver aim device) (Confirms o options.driver) o.layout
       o.flash options.upto t
   pub ends : last_end t.legs.items
+      ≡ chosen_end options.cut options.fail (count_of options o aim)
+      (session_end (slot_size o.layout aim.slot) o.image)
+  pub reached : last_end t.legs.items
       ≡ chosen_end options.cut options.fail (steps_in t.legs.items)
       (session_end (slot_size o.layout aim.slot) o.image)
+  pub counted : IsCounted options.cut options.fail (steps_in t.legs.items)
+      (count_of options o aim)
   pub boots : BootsEither o.layout o.flash aim o.image t.flash.items
   pub after : IsBoot o.layout (images_in held o.layout t.flash.items)
       (entries_in o.layout t.flash.items) (Some t.after)
   pub installed : options.upto ≢ UptoBoot → AreDone t.legs.items
       → BootsNew o.layout aim o.image t.flash.items
+  pub leaves : AreDone t.legs.items → t.flash.items
+      ≡ installed_flash o.layout aim o.image (worker_steps o.rows o.script) options.upto o.flash
 
 -- the status of an update whose last leg ended so
 abbrev pub status_by : LegEnd → Status

@@ -45,7 +45,8 @@ pub(crate) fn a_made_flash_is_as_written_at_a_factory()
 }
 
 /// The status of an update is a loss of power, or a failure of the device, exactly where the step
-/// that was chosen for it was begun; else it is by the bytes of the image: done, or refused.
+/// that was chosen for it is one of those that the files and the words give; else it is by the bytes
+/// of the image: done, or refused.
 pub(crate) fn updates_end_in_their_chosen_step()
     ensures cut { CutIsReached }
     ensures failure { FailureIsReached }

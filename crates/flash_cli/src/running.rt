@@ -21,6 +21,7 @@ use bus_hub::Memory;
 use crash_images::CutNor;
 use duo_run::Duo;
 use flash_ops::Pace;
+use image_verify::whole_images_show_no_fault;
 use nor_device::RamNor;
 use partition_table::Layout;
 use power_cut::{Legs, Ran, Trial, Upto, trial};
@@ -50,6 +51,10 @@ pub(crate) fn run<P: Pace + Sync, R: Threads + Wait + Sync>(
         layout,
         aim,
     } = opening;
+    // What the clauses rest on: an image shows no fault exactly where it is whole, and a script has
+    // so few actions that its steps can be counted.
+    whole_images_show_no_fault();
+    let _few = script.len();
     let duo = Duo {
         table: &table,
         script: &script,
