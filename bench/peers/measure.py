@@ -33,7 +33,7 @@ def built(folder, name):
 
 def compare(folder, commands, passes):
     """Runs commands in turn, each in a fresh process, and prints of each the least seconds, how many times as long the
-    first takes, and the peak memory."""
+    first takes, and the peak memory. Returns the least seconds of each."""
     runner = built(folder, "runner")
     least = dict.fromkeys(commands, float("inf"))
     peak = dict.fromkeys(commands, 0)
@@ -46,3 +46,4 @@ def compare(folder, commands, passes):
     for label, taken in least.items():
         ratio = least[first] / taken
         print(f"{label}: {1000 * taken:.1f} ms, {first} takes {ratio:.2f} of it; peak {peak[label] / 1024:.1f} MiB")
+    return least
