@@ -1,5 +1,5 @@
--- How many steps an update begins: no more than its files and its words give, and all of these where
--- neither chosen step was begun.
+-- How many steps an update begins: no more than its files and its words give, and all of these
+-- where neither chosen step was begun.
 use Rattle.std.proofs.Common.{◌≡◌, inl, inr, ℕ, ◌+◌, ◌^◌, ◌<◌, ◌≤◌, Bool, true, false, List, [], ◌∷◌, length, Option, Some, None, refl, sym, ap, ◌∙◌, arith, subst}
 use Rattle.std.specs.Prelude.{◌&&◌, nat_le, if◌then◌else◌}
 use Rattle.std.proofs.lemmas.Bool.Decides.{nat_tests}
@@ -165,7 +165,8 @@ module _ (shown : ShowsNone) (layout : Places) (aim : Aim) (image : List ℕ) (o
 
       module _ (dev : CutDevice Ram) (leg : Leg)
           (boot : IsBootLeg layout (restarted ran.dev) dev leg) where
-        booted : CountsTo (restarted ran.dev) dev leg (length (boot_steps layout ran.dev.inner.bytes))
+        booted : CountsTo (restarted ran.dev) dev leg
+            (length (boot_steps layout ran.dev.inner.bytes))
         booted = boot_counts layout (restarted ran.dev) dev leg boot
             (let number = mid.steps_are in
             let all = session_all in

@@ -139,11 +139,11 @@ module _ (shown : ShowsNone) (options : Options) (o : CodeOpening) (image : List
       (theirs o.table o.script options.driver o.layout o.aim image o.device begun.table begun.laid
       opens)
       options.driver below options.cut options.fail sound.one chooses
-      (let few = update_few o.layout o.device.inner.bytes o.aim image opens
-      begun.table.size in
-      omega (arith, few))
+      (let short = update_few o.layout o.device.inner.bytes o.aim image opens begun.table.size in
+      omega (arith, short))
       (let most = worker_few (length o.device.inner.bytes) o.table
-      (table_fits _ (length o.device.inner.bytes) o.table begun.table.table) begun.table.size o.script in
+      (table_fits _ (length o.device.inner.bytes) o.table begun.table.table) begun.table.size
+      o.script in
       omega (arith, most, few))
       options.upto t
       (taken_trial o.table o.script options.driver o.layout o.aim image o.device begun.table

@@ -1,5 +1,5 @@
--- The trial of an update by the steps that each core was to make, and the flash that it leaves where
--- nothing broke off.
+-- The trial of an update by the steps that each core was to make, and the flash that it leaves
+-- where nothing broke off.
 use Rattle.std.proofs.Common.{◌≡◌, ◌<◌, ℕ, Bool, true, List, [], ◌∷◌, length, Ok, sym, subst}
 use Rattle.std.specs.List.{AllByRecursion}
 use Rattle.std.specs.Borrow.{Bor}
