@@ -26,7 +26,7 @@ use Rattle.power_cut.specs.Behind.{IsAnnounced}
 use Rattle.power_cut.specs.Device.{HasEnd, IsRan, IsUnbroken, IsWholeEnd}
 use Rattle.power_cut.specs.Installed.{AllLieIn, written_flash}
 use Rattle.power_cut.specs.Update.{Opens, session_end, slot_size}
-use Rattle.power_cut.specs.Whole.{BehindBoot, BehindSession, EndsWith, IsBootLeg, IsTrial, boot_steps, is_done, wants_boot, wants_confirm}
+use Rattle.power_cut.specs.Whole.{BehindBoot, BehindSession, IsBootLeg, IsTrial, boot_steps, is_done, wants_boot, wants_confirm}
 use Rattle.power_cut.proofs.BehindLemmas.{announced_writes}
 use Rattle.power_cut.proofs.InstalledLemmas.{session_announces, session_leaves}
 use Rattle.duo_run.proofs.TakenLegs.{AnyMap, CountsTo, TakenConfirm, TakenSession, boot_counts, confirm_counts, session_counts, unbroken_whole}
