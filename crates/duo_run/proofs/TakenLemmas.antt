@@ -1,6 +1,6 @@
 -- The shares of a leg by the steps that their cores were to make: how many of them they begin, and
 -- which they make where nothing broke off.
-use Rattle.std.proofs.Common.{◌≡◌, ◌≤◌, ℕ, ◌+◌, List, [], ◌∷◌, ◌++◌, length, length-append, None, Result, Ok, Err, inl, inr, refl, sym, ap, ◌∙◌, arith}
+use Rattle.std.proofs.Common.{◌≡◌, ◌≤◌, ℕ, ◌+◌, List, [], ◌∷◌, ◌++◌, length, length-append, None, Result, Ok, Err, inl, inr, sym, ap, ◌∙◌, arith}
 use Rattle.core_state.specs.declared.registers.Regs.{Regs}
 use Rattle.core_state.specs.Registers.{reset}
 use Rattle.nor_device.specs.declared.step.Step.{Step}
@@ -16,7 +16,7 @@ use Rattle.bus_hub.specs.declared.did.Did.{Did}
 use Rattle.bus_hub.specs.Shares.{made, made_from}
 use Rattle.flash_ops.specs.Moves.{Ask, Follows, Look, Make, Move, Ran as HasMoved, Stops, makes, steps_of}
 use Rattle.flash_ops.proofs.Runs.{made_follows, steps_of_makes}
-use Rattle.power_cut.specs.Counts.{opened_by, opened_in}
+use Rattle.power_cut.specs.Counts.{opened_in}
 use Rattle.duo_run.specs.Worker.{BreaksOff, HasDone, HasEnded, HasLeft, HasStopped, HasWritten, WorkerShare, action_steps, note, regs_after, worker_steps}
 use Rattle.duo_run.proofs.StepsLemmas.{MakesSteps}
 use Rattle.duo_run.proofs.ShareLemmas.{done_made, left_makes}

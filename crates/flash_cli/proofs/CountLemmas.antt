@@ -1,5 +1,5 @@
--- How many steps an update begins: no more than its files and its words give, and all of these where
--- neither chosen step was begun.
+-- How many steps an update begins: no more than its files and its words give, and all of these
+-- where neither chosen step was begun.
 use Rattle.std.proofs.Common.{◌≡◌, inl, inr, ℕ, ◌+◌, ◌^◌, ◌<◌, ◌≤◌, Bool, true, false, List, [], ◌∷◌, length, Option, Some, None, refl, sym, ap, ◌∙◌, arith, subst}
 use Rattle.std.specs.Prelude.{◌&&◌, nat_le, if◌then◌else◌}
 use Rattle.std.proofs.lemmas.Bool.Decides.{nat_tests}
@@ -26,7 +26,7 @@ use Rattle.power_cut.specs.Behind.{IsAnnounced}
 use Rattle.power_cut.specs.Device.{HasEnd, IsRan, IsUnbroken, IsWholeEnd}
 use Rattle.power_cut.specs.Installed.{AllLieIn, written_flash}
 use Rattle.power_cut.specs.Update.{Opens, session_end, slot_size}
-use Rattle.power_cut.specs.Whole.{BehindBoot, BehindSession, EndsWith, IsBootLeg, IsTrial, boot_steps, is_done, wants_boot, wants_confirm}
+use Rattle.power_cut.specs.Whole.{BehindBoot, BehindSession, IsBootLeg, IsTrial, boot_steps, is_done, wants_boot, wants_confirm}
 use Rattle.power_cut.proofs.BehindLemmas.{announced_writes}
 use Rattle.power_cut.proofs.InstalledLemmas.{session_announces, session_leaves}
 use Rattle.duo_run.proofs.TakenLegs.{AnyMap, CountsTo, TakenConfirm, TakenSession, boot_counts, confirm_counts, session_counts, unbroken_whole}
@@ -165,7 +165,8 @@ module _ (shown : ShowsNone) (layout : Places) (aim : Aim) (image : List ℕ) (o
 
       module _ (dev : CutDevice Ram) (leg : Leg)
           (boot : IsBootLeg layout (restarted ran.dev) dev leg) where
-        booted : CountsTo (restarted ran.dev) dev leg (length (boot_steps layout ran.dev.inner.bytes))
+        booted : CountsTo (restarted ran.dev) dev leg
+            (length (boot_steps layout ran.dev.inner.bytes))
         booted = boot_counts layout (restarted ran.dev) dev leg boot
             (let number = mid.steps_are in
             let all = session_all in

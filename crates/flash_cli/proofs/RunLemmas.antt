@@ -1,5 +1,5 @@
 -- The update that the program makes of what it began with.
-use Rattle.std.proofs.Common.{◌≡◌, ◌≢◌, ℕ, ◌*◌, ◌^◌, ◌<◌, ◌≤◌, List, length, take, drop, All, Some, Result, Ok, Err, sym, ap, ◌∙◌, subst, arith}
+use Rattle.std.proofs.Common.{◌≡◌, ◌≢◌, ℕ, ◌<◌, ◌≤◌, List, length, take, drop, All, Some, Result, Ok, Err, sym, ap, ◌∙◌, subst, arith}
 use Rattle.std.specs.Prelude.{IfOk}
 use Rattle.std.specs.Borrow.{Bor}
 use Rattle.nor_device.specs.Ram.{Ram}
@@ -139,11 +139,11 @@ module _ (shown : ShowsNone) (options : Options) (o : CodeOpening) (image : List
       (theirs o.table o.script options.driver o.layout o.aim image o.device begun.table begun.laid
       opens)
       options.driver below options.cut options.fail sound.one chooses
-      (let few = update_few o.layout o.device.inner.bytes o.aim image opens
-      begun.table.size in
-      omega (arith, few))
+      (let short = update_few o.layout o.device.inner.bytes o.aim image opens begun.table.size in
+      omega (arith, short))
       (let most = worker_few (length o.device.inner.bytes) o.table
-      (table_fits _ (length o.device.inner.bytes) o.table begun.table.table) begun.table.size o.script in
+      (table_fits _ (length o.device.inner.bytes) o.table begun.table.table) begun.table.size
+      o.script in
       omega (arith, most, few))
       options.upto t
       (taken_trial o.table o.script options.driver o.layout o.aim image o.device begun.table

@@ -1,9 +1,8 @@
--- The trial of an update by the steps that each core was to make, and the flash that it leaves where
--- nothing broke off.
+-- The trial of an update by the steps that each core was to make, and the flash that it leaves
+-- where nothing broke off.
 use Rattle.std.proofs.Common.{◌≡◌, ◌<◌, ℕ, Bool, true, List, [], ◌∷◌, length, Ok, sym, subst}
 use Rattle.std.specs.List.{AllByRecursion}
 use Rattle.std.specs.Borrow.{Bor}
-use Rattle.core_state.specs.Registers.{reset}
 use Rattle.nor_device.specs.declared.step.Step.{Step}
 use Rattle.nor_device.specs.Ram.{Ram}
 use Rattle.crash_images.specs.Cut.{CutDevice}

@@ -105,7 +105,8 @@ cut_reached options o t k sound is =
     let ends = ap status_by is.ends in (
       λ status. cut_only options.cut options.fail (count_of options o is.aim) k whole
           (whole_session (slot_size o.layout is.aim.slot) o.image) (sym ends ∙ status),
-      λ chosen. ends ∙ cut_then options.cut options.fail (count_of options o is.aim) k whole chosen.0 chosen.1,
+      λ chosen. ends ∙ cut_then options.cut options.fail (count_of options o is.aim) k whole
+          chosen.0 chosen.1,
     )
 
 pub failure_reached : FailureIsReached
@@ -114,10 +115,11 @@ failure_reached options o t k sound is =
     let ends = ap status_by is.ends in (
       λ status. failure_only options.cut options.fail (count_of options o is.aim) k whole
           (whole_session (slot_size o.layout is.aim.slot) o.image) (sym ends ∙ status),
-      λ chosen. ends ∙ failure_then options.cut options.fail (count_of options o is.aim) k whole sound.one
-          chosen.0 chosen.1,
+      λ chosen. ends ∙ failure_then options.cut options.fail (count_of options o is.aim) k whole
+          sound.one chosen.0 chosen.1,
     )
 
 pub else_by_image : ElseByImage
 else_by_image options o t is cut_ahead fail_ahead =
-    ap status_by (is.ends ∙ unbroken_end options.cut options.fail (count_of options o is.aim) _ cut_ahead fail_ahead)
+    ap status_by (is.ends
+    ∙ unbroken_end options.cut options.fail (count_of options o is.aim) _ cut_ahead fail_ahead)

@@ -65,8 +65,9 @@ chosen_end None None steps whole = whole
 
 -- an update with these options that began so: the session, the boot and the confirmation of a
 -- device with the flash, as far as they go. It has as many steps as the files and the words give,
--- and ends in the chosen one where there are so many; what boots of the flash that is left; and where
--- all legs were made whole, this flash is a function of the files and the words
+-- and ends in the chosen one where there are so many, which is where that was begun; what boots of
+-- the flash that is left; and where all legs were made whole, this flash is a function of the files
+-- and the words
 pub record IsUpdate (options : Options) (o : Opening) (t : Trial) : Type 0 where
   pub aim : Aim
   pub aims : AimsIn o.flash o.layout (length o.image) aim
