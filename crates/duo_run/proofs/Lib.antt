@@ -18,3 +18,4 @@ mod NumberLemmas
 mod DuoLemmas
 mod DrivingLemmas
 mod WriteAllLemmas
+mod OpeningLemmas
