@@ -23,3 +23,4 @@ pub mod TakenLemmas
 pub mod LegCountLemmas
 pub mod TakenLegs
 pub mod FewStepsLemmas
+pub mod OpeningLemmas

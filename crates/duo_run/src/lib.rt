@@ -7,6 +7,8 @@ mod driver;
 mod duo;
 mod job;
 mod laws;
+#[cfg(test)]
+mod leg_tests;
 mod pages;
 mod room;
 #[cfg(test)]

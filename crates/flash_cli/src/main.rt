@@ -18,6 +18,8 @@ mod image_make;
 #[cfg(test)]
 mod image_tests;
 mod laid;
+#[cfg(test)]
+mod large_tests;
 mod laws;
 mod opening;
 mod reject;

@@ -378,7 +378,7 @@ fn store_of_updates(alloc: Global) -> Result<MemStore, Fail> {
 }
 
 /// Makes calls on a store, and tells the first that ends otherwise.
-fn first_other<'a, R: Threads + Wait + Sync>(
+pub(crate) fn first_other<'a, R: Threads + Wait + Sync>(
     rt: &R,
     alloc: Global,
     calls: &[Call<'a>],

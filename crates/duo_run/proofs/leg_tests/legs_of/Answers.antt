@@ -1,0 +1,16 @@
+use Rattle.duo_run.proofs.OpeningLemmas.{duo_affirms, duo_keeps}
+use Rattle.duo_run.proofs.leg_tests.legs_of.Goals as goal
+
+-- a session of both cores keeps what a trial asks
+pub trial-requires-clause-written : goal.trial-requires-clause-written
+trial-requires-clause-written g c = λ ran post.
+    duo_keeps c.args.duo.now.table.now c.args.duo.now.script.now c.args.duo.now.driver
+    c.args.layout.now c.args.dev.inner.bytes c.requires.table c.args.aim.now c.args.image.now
+    c.args.dev ran (post.1 c.args.layout.now c.requires.table.layout_is)
+
+-- and so does a confirmation
+pub trial-requires-clause-confirmed : goal.trial-requires-clause-confirmed
+trial-requires-clause-confirmed g c = λ dev at write ran may post.
+    duo_affirms c.args.duo.now.table.now c.args.duo.now.script.now c.args.duo.now.driver
+    c.args.layout.now c.args.dev.inner.bytes c.requires.table at.now write.now dev ran
+    (post.1 c.args.layout.now c.requires.table.layout_is)
