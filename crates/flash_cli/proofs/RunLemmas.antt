@@ -1,14 +1,10 @@
 -- The update that the program makes of what it began with.
-use Rattle.std.proofs.Common.{◌≡◌, ◌≢◌, ℕ, ◌<◌, List, length, take, drop, All, Some, Result, Ok, Err, sym, ap, ◌∙◌, subst}
+use Rattle.std.proofs.Common.{◌≡◌, ◌≢◌, ℕ, ◌<◌, List, length, All, Some, Result, Ok, Err, sym, ap, ◌∙◌, subst}
 use Rattle.std.specs.Prelude.{IfOk}
-use Rattle.std.specs.Borrow.{Bor}
 use Rattle.nor_device.specs.Ram.{Ram}
-use Rattle.nor_device.specs.FlashSize.{IsFlashSize}
-use Rattle.nor_device.specs.Nor.{part_of}
 use Rattle.crash_images.specs.Cut.{CutDevice}
 use Rattle.partition_table.specs.declared.row.Row.{Row}
 use Rattle.partition_table.specs.Layout.{Places, layout_in}
-use Rattle.partition_table.specs.Table.{table_of}
 use Rattle.boot_select.specs.Boots.{entries_in, images_in}
 use Rattle.image_verify.specs.Held.{held}
 use Rattle.rollback.specs.declared.rewrite.Rewrite.{Rewrite}
@@ -34,7 +30,7 @@ use Rattle.duo_run.specs.Legs.{ConfirmShare, IsDuoConfirm, IsDuoSession, MayAffi
 use Rattle.duo_run.specs.Worker.{WorkerShare}
 use Rattle.flash_cli.specs.declared.opening.Opening.{Opening as CodeOpening}
 use Rattle.flash_cli.specs.declared.update_words.Options.{Options}
-use Rattle.flash_cli.specs.Opening.{AimsIn, AreOptions, IsBegun, opening_with}
+use Rattle.flash_cli.specs.Opening.{AimsIn, AreOptions, IsBegun, IsFresh, opening_with}
 use Rattle.flash_cli.specs.Legs.{Confirms, Writes}
 use Rattle.flash_cli.specs.Updating.{IsUpdate}
 use Rattle.flash_cli.specs.Served.{AreReadable}
@@ -96,44 +92,49 @@ module _ (rows : List Row) (script : List Action) (driver : ℕ) (layout : Place
       (flash_apart first rows layout has.table (table_lays first rows layout has))
       write old ran is
 
--- an update that began, by its legs and by what it left
-pub made_update : (options : Options) (o : CodeOpening) (image : List ℕ) (t : Trial)
-    → AreOptions options → IsBegun image options o
-    → IsTrial (Writes (opening_with image o) options.driver o.aim o.device)
-    (Confirms (opening_with image o) options.driver) o.layout o.device.inner.bytes options.upto t
-    → BootsEither o.layout o.device.inner.bytes o.aim image t.flash.items
+-- an update that began on this device, by its legs and by what it left
+pub made_update : (options : Options) (o : CodeOpening) (image : List ℕ) (dev : CutDevice Ram)
+    (t : Trial) → AreOptions options → IsBegun image o → IsFresh options o.flash.items dev
+    → IsTrial (Writes (opening_with image o) options.driver o.aim dev)
+    (Confirms (opening_with image o) options.driver) o.layout o.flash.items options.upto t
+    → BootsEither o.layout o.flash.items o.aim image t.flash.items
     → IsBoot o.layout (images_in held o.layout t.flash.items) (entries_in o.layout t.flash.items)
     (Some t.after)
     → (options.upto ≢ UptoBoot → AreDone t.legs.items → BootsNew o.layout o.aim image t.flash.items)
     → IsUpdate options (opening_with image o) t
-made_update options o image t sound begun trial boots after installed = record {
+made_update options o image dev t sound begun fresh trial boots after installed = record {
   aim = o.aim;
   aims = begun.aims;
-  device = o.device;
-  fresh = begun.fresh;
+  device = dev;
+  fresh = fresh;
   trial = trial;
   ends = update_ends (opening_with image o) options.driver options.cut options.fail
-      (session_end (slot_size o.layout o.aim.slot) image) options.upto o.device trial.session t
-      sound.one begun.fresh.cut begun.fresh.fail begun.fresh.steps trial.written.ran_is trial.behind;
+      (session_end (slot_size o.layout o.aim.slot) image) options.upto dev trial.session t
+      sound.one fresh.cut fresh.fail fresh.steps trial.written.ran_is trial.behind;
   boots = boots;
   after = after;
   installed = installed;
 }
 
--- the same of an answer of the legs
-pub update_of : {E : Type 0} (options : Options) (o : CodeOpening) (image : List ℕ) (r : Result Trial E)
-    → AreOptions options → IsBegun image options o
-    → IfOk r (λ t. IsTrial (Writes (opening_with image o) options.driver o.aim o.device)
-    (Confirms (opening_with image o) options.driver) o.layout o.device.inner.bytes options.upto t)
-    → IfOk r (λ t. BootsEither o.layout o.device.inner.bytes o.aim image t.flash.items)
+-- the same of an answer of the legs, by the bytes of the device
+pub update_of : {E : Type 0} (options : Options) (o : CodeOpening) (image : List ℕ)
+    (dev : CutDevice Ram) (r : Result Trial E) → AreOptions options → IsBegun image o
+    → IsFresh options o.flash.items dev
+    → IfOk r (λ t. IsTrial (Writes (opening_with image o) options.driver o.aim dev)
+    (Confirms (opening_with image o) options.driver) o.layout dev.inner.bytes options.upto t)
+    → IfOk r (λ t. BootsEither o.layout dev.inner.bytes o.aim image t.flash.items)
     → IfOk r (λ t. IsBoot o.layout (images_in held o.layout t.flash.items)
     (entries_in o.layout t.flash.items) (Some t.after))
     → IfOk r (λ t. options.upto ≢ UptoBoot → AreDone t.legs.items
     → BootsNew o.layout o.aim image t.flash.items)
     → IfOk r (IsUpdate options (opening_with image o))
-update_of options o image (Ok t) sound begun trial boots after installed =
-    made_update options o image t sound begun trial boots after installed
-update_of options o image (Err why) sound begun trial boots after installed = tt
+update_of options o image dev (Ok t) sound begun fresh trial boots after installed =
+    made_update options o image dev t sound begun fresh
+    (subst (λ bytes. IsTrial (Writes (opening_with image o) options.driver o.aim dev)
+    (Confirms (opening_with image o) options.driver) o.layout bytes options.upto t) fresh.bytes trial)
+    (subst (λ bytes. BootsEither o.layout bytes o.aim image t.flash.items) fresh.bytes boots)
+    after installed
+update_of options o image dev (Err why) sound begun fresh trial boots after installed = tt
 
 pub update_readable : {E : Type 0} (options : Options) (o : CodeOpening) (image : List ℕ)
     (r : Result Trial E) → IfOk r (IsUpdate options (opening_with image o)) → IfOk r AreReadable
