@@ -18,3 +18,5 @@ pub mod OpeningLemmas
 pub mod TrialLemmas
 pub mod RunLemmas
 pub mod UpdateLaws
+pub mod SweepLemmas
+pub mod SweptLemmas
