@@ -20,3 +20,5 @@ pub mod TakenLemmas
 pub mod CountLemmas
 pub mod RunLemmas
 pub mod UpdateLaws
+pub mod SweepLemmas
+pub mod SweptLemmas

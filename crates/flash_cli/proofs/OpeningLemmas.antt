@@ -1,22 +1,19 @@
 -- What an update begins with, or the first reason why it may not begin.
-use Rattle.std.proofs.Common.{◌≡◌, ℕ, ◌+◌, ◌-◌, ◌^◌, ◌<◌, ◌≤◌, Bool, true, false, List, length, take, drop, Option, Some, None, Result, Ok, Err, refl, sym, ap, ◌∙◌, arith, subst}
+use Rattle.std.proofs.Common.{◌≡◌, ℕ, ◌-◌, ◌^◌, ◌<◌, ◌≤◌, Bool, true, false, List, length, Option, Some, None, Result, Ok, Err, refl, sym, ap, ◌∙◌, arith, subst}
 use Rattle.std.specs.Prelude.{◌%◌, ◌==◌, not, nat_lt, if◌then◌else◌, slice_get, IfSome, IfOk, IsSome}
 use Rattle.std.proofs.lemmas.Bool.Decides.{nat_tests}
 use Rattle.nor_device.specs.declared.nor.NorFault.{NorFault}
-use Rattle.nor_device.specs.declared.nor.NorFault.TheVariants as faults
 use Rattle.nor_device.specs.FlashSize.{IsFlashSize, is_flash_size}
 use Rattle.duo_run.specs.Both.{HasTable}
 use Rattle.partition_table.specs.declared.app.App.{App}
 use Rattle.partition_table.specs.declared.app.App.TheVariants.{Ota}
 use Rattle.partition_table.specs.declared.bad.TableBad.{TableBad}
 use Rattle.partition_table.specs.declared.row.Row.{Row}
-use Rattle.partition_table.specs.Layout.{IsPlaced, Places, layout_by, layout_in, layout_of, row_for}
+use Rattle.partition_table.specs.Layout.{IsPlaced, Places, layout_in, layout_of}
 use Rattle.partition_table.specs.Rules.{Stands, is_within}
-use Rattle.partition_table.specs.Table.{table_of}
 use Rattle.otadata.specs.declared.entry.Entry.{Entry}
 use Rattle.otadata.specs.declared.next.NextEntry.{NextEntry}
 use Rattle.otadata.specs.declared.next.SeqSpent.{SeqSpent}
-use Rattle.otadata.specs.Next.{next_of}
 use Rattle.boot_select.specs.declared.settling.Unsettled.{Unsettled}
 use Rattle.boot_select.specs.Boots.{entries_in, images_in}
 use Rattle.boot_select.specs.Settled.{is_same}
@@ -27,40 +24,39 @@ use Rattle.core_script.specs.ScriptText.{script_of_text}
 use Rattle.boot_run.specs.declared.aims.Aim.{Aim}
 use Rattle.boot_run.specs.declared.aims.AimNo.{AimNo}
 use Rattle.boot_run.specs.declared.aims.AimNo.TheVariants as no
-use Rattle.boot_run.specs.Aim.{AimsAt, IsAimed, aim_answer, aim_at, aim_by, aim_in as aim_slot, aim_next, running_of}
+use Rattle.boot_run.specs.Aim.{AimsAt, aim_answer, aim_at, aim_by, aim_in as aim_slot, aim_next, running_of}
 use Rattle.flash_text.specs.declared.refusal.Refusal.{Refusal}
 use Rattle.flash_text.specs.declared.refusal.Refusal.TheVariants as why
 use Rattle.flash_cli.specs.Laid.{layout_or_refusal}
-use Rattle.flash_cli.specs.Opening.{AimsIn, BeginsSo, IsAimRefusal, IsFresh, Opens, OpensBy, next_beside, next_by, next_for, next_in, next_in_slot, opening_from, rows_in, rows_or_refusal, script_or_refusal, with_need}
+use Rattle.flash_cli.specs.Opening.{AimsIn, BeginsSo, IsAimRefusal, Opens, OpensBy, next_beside, next_by, next_for, next_in, next_in_slot, opening_from, rows_in, rows_or_refusal, script_or_refusal, with_need}
 use Rattle.flash_cli.specs.Report.{IsFound}
 use Rattle.flash_cli.specs.declared.error.CommandError.{CommandError}
 use Rattle.flash_cli.specs.declared.error.CommandError.TheVariants.{Absent, Refused, Failed}
 use Rattle.flash_cli.specs.declared.error.Failure.TheVariants.{Store, Memory}
 use Rattle.flash_cli.specs.declared.opening.Opening.{Opening as CodeOpening}
-use Rattle.flash_cli.specs.declared.update_words.Options.{Options}
 
 -- ---- the first reason
 
-pub script_fails : (flash image text : List ℕ) (options : Options) (error : CommandError)
+pub script_fails : (flash image text : List ℕ) (error : CommandError)
     → IsFound (λ (script : List Action). script) (script_or_refusal (script_of_text text)) (Err error)
-    → Opens flash image text options (Err error)
-script_fails flash image text options (Refused reason) found = rw found refl
-script_fails flash image text options (Absent file name) found = found
-script_fails flash image text options (Failed Store) found = found
-script_fails flash image text options (Failed Memory) found = found
+    → Opens flash image text (Err error)
+script_fails flash image text (Refused reason) found = rw found refl
+script_fails flash image text (Absent file name) found = found
+script_fails flash image text (Failed Store) found = found
+script_fails flash image text (Failed Memory) found = found
 
-pub script_found : (flash image text : List ℕ) (script : List Action) (options : Options)
+pub script_found : (flash image text : List ℕ) (script : List Action)
     (result : Result CodeOpening CommandError)
     → script_or_refusal (script_of_text text) ≡ Ok script
-    → OpensBy flash image script options result → Opens flash image text options result
-script_found flash image text script options (Ok o) found opens = record {
+    → OpensBy flash image script result → Opens flash image text result
+script_found flash image text script (Ok o) found opens = record {
   given = rw found opens.given;
   begun = opens.begun;
 }
-script_found flash image text script options (Err (Refused reason)) found opens = rw found opens
-script_found flash image text script options (Err (Absent file name)) found opens = absurd opens
-script_found flash image text script options (Err (Failed Store)) found opens = absurd opens
-script_found flash image text script options (Err (Failed Memory)) found opens = absurd opens
+script_found flash image text script (Err (Refused reason)) found opens = rw found opens
+script_found flash image text script (Err (Absent file name)) found opens = absurd opens
+script_found flash image text script (Err (Failed Store)) found opens = absurd opens
+script_found flash image text script (Err (Failed Memory)) found opens = absurd opens
 
 pub rows_fail : (flash image : List ℕ) (script : List Action) (reason : Refusal)
     → Err reason ≡ rows_in flash → opening_from flash image script ≡ Err reason
@@ -409,12 +405,11 @@ aim_refused (Some flash) layout long look refusal is aims =
     (told_if (Some flash) (aim_answer (Err look)) (λ bytes answer. AimsAt layout (images_in held layout bytes) (entries_in layout bytes) long answer) flash refl aims)
 
 -- what an update begins with, of its parts
-pub begins_so : (flash image : List ℕ) (options : Options) (o : CodeOpening) (long : ℕ)
-    → IsFlashSize (length flash) → Ok o.table ≡ rows_in flash → Ok o.layout ≡ layout_or_refusal (layout_of o.table)
-    → long ≡ length image → AimsIn flash o.layout long o.aim → IsFresh options flash o.device
-    → BeginsSo flash image o.script options o
-begins_so flash image options o long size found laid is aims fresh =
-    let here = fresh.bytes in
+pub begins_so : (flash image : List ℕ) (o : CodeOpening) (long : ℕ) → IsFlashSize (length flash)
+    → Ok o.table ≡ rows_in flash → Ok o.layout ≡ layout_or_refusal (layout_of o.table)
+    → long ≡ length image → AimsIn flash o.layout long o.aim → o.flash.items ≡ flash
+    → BeginsSo flash image o.script o
+begins_so flash image o long size found laid is aims here =
     let aimed : AimsIn flash o.layout (length image) o.aim =
     subst (λ n. AimsIn flash o.layout n o.aim) is aims in
     record {
@@ -432,6 +427,5 @@ begins_so flash image options o long size found laid is aims fresh =
         table = subst (HasTable o.table o.layout) (sym here)
             (has_table flash o.table o.layout size (sym found) (sym laid));
         aims = subst (λ bytes. AimsIn bytes o.layout (length image) o.aim) (sym here) aimed;
-        fresh = subst (λ bytes. IsFresh options bytes o.device) (sym here) fresh;
       };
     }

@@ -1,9 +1,8 @@
 -- How a call with an update ends, from what was read, made, put and pushed.
-use mathlib.Core.Logic.{◌⊎◌, inl, inr}
-use Rattle.std.proofs.Common.{◌≡◌, ℕ, List, [], ◌∷◌, Option, Some, None, Result, Ok, Err, refl, sym, ap, ◌∙◌, subst}
+use mathlib.Core.Logic.{inl, inr}
+use Rattle.std.proofs.Common.{◌≡◌, ℕ, List, [], ◌∷◌, Option, Some, None, Result, Ok, Err, refl, sym, ap}
 use Rattle.std.specs.Prelude.{IfSome, string_bytes, codes}
 use Rattle.pipe_ends.specs.Store.{Files, TellsPut}
-use Rattle.pipe_ends.specs.Sink.{TellsAll, TellsSome}
 use Rattle.power_cut.specs.declared.legs.LegEnd.{LegEnd}
 use Rattle.power_cut.specs.declared.legs.LegEnd.TheVariants as ends
 use Rattle.power_cut.specs.declared.outcome.Trial.{Trial}
@@ -13,12 +12,11 @@ use Rattle.flash_cli.specs.declared.error.CommandError.{CommandError}
 use Rattle.flash_cli.specs.declared.error.CommandError.TheVariants.{Absent, Refused as RefusedBy, Failed}
 use Rattle.flash_cli.specs.declared.error.Failure.TheVariants.{Store, Memory as OutOfMemory}
 use Rattle.flash_cli.specs.declared.status.Status.{Status}
-use Rattle.flash_cli.specs.declared.status.Status.TheVariants.{Done, Usage, Refused, StoreFault, DeviceFault, PowerCut, Memory, SinkFault}
-use Rattle.flash_cli.specs.Answer.{Outcome, TellsPuts, refused_outcome}
+use Rattle.flash_cli.specs.Answer.{TellsPuts, refused_outcome}
 use Rattle.flash_cli.specs.UpdateWords.{Update}
 use Rattle.flash_cli.specs.Reading.{TellsAnswer}
-use Rattle.flash_cli.specs.Updating.{IsMade, IsUpdated, IsUpdateEnd, UpdateEnds, UpdateOf, UpdateEndsWhole, UpdateIsUnmade, last_end, outcome_of_trial, status_by}
-use Rattle.flash_cli.specs.Served.{EndsBy, IsPushed, IsRefusal, Refuses}
+use Rattle.flash_cli.specs.Updating.{IsMade, IsUpdated, IsUpdateEnd, UpdateEnds, UpdateOf, UpdateEndsWhole, last_end, outcome_of_trial, status_by}
+use Rattle.flash_cli.specs.Served.{EndsBy, IsRefusal, Refuses}
 use Rattle.flash_cli.proofs.PutLemmas.{puts_none}
 
 -- what an update of the files that were read came to, the update of the words came to
@@ -149,20 +147,22 @@ unmade_ends told u first now (Failed Store) status before after counted (fault, 
 unmade_ends told u first now (Failed OutOfMemory) status before after counted (none, silent) =
     rw none (inl (record { none = refl; unput = refl; silent = silent }))
 
--- a call with words that are this update ended so: it was made, or not
-pub asked_told : (asked : Option Update) (u : Update) (told : Option Files) (t : Trial)
-    (status : Status) (trial : Option Trial) (read put : Option Files)
-    (before after : Option (List ℕ)) → Some u ≡ asked → trial ≡ Some t → IsMade told u t
-    → read ≡ told → EndsBy u t status read put before after
-    → IfSome asked (λ u. UpdateEnds told u status trial put before after)
-asked_told asked u told t status trial read put before after is some made same ends =
-    rw (sym is, some)
-    (told_ends told u t status put before after made (rw same at ends))
+-- a call with an update ended so: it was made, or not
+pub update_told : (u : Update) (told : Option Files) (t : Trial) (status : Status)
+    (trial : Option Trial) (read put : Option Files) (before after : Option (List ℕ))
+    → trial ≡ Some t → IsMade told u t → read ≡ told → EndsBy u t status read put before after
+    → UpdateEnds told u status trial put before after
+update_told u told t status trial read put before after some made same ends =
+    rw some (told_ends told u t status put before after made (rw same at ends))
 
-pub asked_unmade : (asked : Option Update) (u : Update) (told : Option Files) (first now : ℕ)
-    (error : CommandError) (status : Status) (trial : Option Trial) (read : Option Files)
-    (before after : Option (List ℕ)) → Some u ≡ asked → trial ≡ None
-    → IsUpdateEnd told u first now (Err error) → read ≡ told → Refuses error status before after
-    → IfSome asked (λ u. UpdateEnds told u status trial read before after)
-asked_unmade asked u told first now error status trial read before after is none comes same refuses =
-    rw (sym is, none, same) (unmade_ends told u first now error status before after comes refuses)
+pub update_unmade : (u : Update) (told : Option Files) (first now : ℕ) (error : CommandError)
+    (status : Status) (trial : Option Trial) (read : Option Files) (before after : Option (List ℕ))
+    → trial ≡ None → IsUpdateEnd told u first now (Err error) → read ≡ told
+    → Refuses error status before after → UpdateEnds told u status trial read before after
+update_unmade u told first now error status trial read before after none comes same refuses =
+    rw (none, same) (unmade_ends told u first now error status before after comes refuses)
+
+-- what holds of an update holds of words that are this one
+pub asked_so : {A : Type 0} (asked : Option A) (u : A) (P : A → Type 0) → Some u ≡ asked → P u
+    → IfSome asked P
+asked_so asked u P is so = rw (sym is) so

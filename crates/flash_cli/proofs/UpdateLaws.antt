@@ -28,7 +28,7 @@ whole_if : (b : Bool) (x y : LegEnd) → IsWholeEnd x → IsWholeEnd y → IsWho
 whole_if true x y first second = first
 whole_if false x y first second = second
 
-whole_session : (size : ℕ) (image : List ℕ) → IsWholeEnd (session_end size image)
+pub whole_session : (size : ℕ) (image : List ℕ) → IsWholeEnd (session_end size image)
 whole_session size [] = tt
 whole_session size (byte ∷ bytes) =
     whole_if (byte == 0xE9) _ _ (whole_sealed (bad size (byte ∷ bytes))) tt

@@ -5,8 +5,8 @@ use Rattle.std.specs.List.{list_all, list_any}
 use Rattle.std.specs.declared.alloc.Global.{Global}
 use Rattle.std.proofs.lemmas.Bool.Decides.{nat_tests}
 use Rattle.std.proofs.lemmas.List.{take-map, drop-map, take_rest, length-map}
-use Rattle.flash_cli.specs.Command.{Command, Row, rows, row_of, made, command_of, words_of, is_file_name, has_option, are_options, fits}
-use Rattle.flash_cli.specs.UpdateWords.{Update, update_made, update_of}
+use Rattle.flash_cli.specs.declared.command.Kind.{Kind}
+use Rattle.flash_cli.specs.Command.{Command, Row, rows, row_of, made, command_of, cores_of, words_of, is_file_name, has_option, are_options, fits}
 
 -- an option with its value stands before other words
 pub option_first : (options : List (List ℕ)) (words : List (String Global)) (word : String Global) (text again_text : List ℕ)
@@ -49,29 +49,30 @@ command_read (x ∷ words) word text row all fit command long is text_is all_is 
     ∙ ap (made row.kind) (sym (take-map _ row.names words)) in
     rw (here, cores, fits_so) made_so
 
--- words with a first one make the update of its row
-pub update_read : (words : List (String Global)) (word : String Global) (text : List ℕ) (row : Row)
-    (all : List Row) (fit : Bool) (update : Option Update)
+-- words with a first one make what the row of that makes, where it starts cores
+pub cores_read : {A : Type 0} (make : Kind → List (List ℕ) → List (List ℕ) → Option A)
+    (words : List (String Global)) (word : String Global) (text : List ℕ) (row : Row)
+    (all : List Row) (fit : Bool) (answer : Option A)
     → 1 ≤ length words → word ≡ get_or words 0 word → text ≡ string_bytes word → all ≡ rows
     → Some row ≡ row_of all text → row.cores ≡ true
     → fit ≡ fits row (words_of (take (length words - 1) (drop 1 words))) → fit ≡ true
-    → update ≡ update_made row.kind (words_of (take row.names (take (length words - 1) (drop 1 words))))
+    → answer ≡ make row.kind (words_of (take row.names (take (length words - 1) (drop 1 words))))
     (words_of (take (length (take (length words - 1) (drop 1 words)) - row.names)
     (drop row.names (take (length words - 1) (drop 1 words)))))
-    → update ≡ update_of (words_of words)
-update_read [] word text row all fit update long is text_is all_is found cores fit_is fitting made_is = absurd (omega arith)
-update_read (x ∷ words) word text row all fit update long is text_is all_is found cores fit_is fitting made_is =
+    → answer ≡ cores_of make (words_of words)
+cores_read make [] word text row all fit answer long is text_is all_is found cores fit_is fitting made_is = absurd (omega arith)
+cores_read make (x ∷ words) word text row all fit answer long is text_is all_is found cores fit_is fitting made_is =
     let tail = take_rest (x ∷ words) 1 in
     let here : row_of rows (string_bytes x) ≡ Some row =
     sym (found ∙ (λ i. row_of (all_is i) ((text_is ∙ ap (λ (w : String Global). string_bytes w) is) i))) in
     let fits_so : fits row (words_of words) ≡ true =
     sym (ap (λ ws. fits row (words_of ws)) tail) ∙ sym fit_is ∙ fitting in
-    let made_so : update ≡ update_made row.kind (take row.names (words_of words)) (drop row.names (words_of words)) =
+    let made_so : answer ≡ make row.kind (take row.names (words_of words)) (drop row.names (words_of words)) =
     made_is
-    ∙ ap (λ ws. update_made row.kind (words_of (take row.names ws)) (words_of (take (length ws - row.names) (drop row.names ws)))) tail
-    ∙ ap (λ ws. update_made row.kind (words_of (take row.names words)) (words_of ws)) (take_rest words row.names)
-    ∙ ap (λ ws. update_made row.kind ws (words_of (drop row.names words))) (sym (take-map _ row.names words))
-    ∙ ap (λ ws. update_made row.kind (take row.names (words_of words)) ws) (sym (drop-map _ row.names words)) in
+    ∙ ap (λ ws. make row.kind (words_of (take row.names ws)) (words_of (take (length ws - row.names) (drop row.names ws)))) tail
+    ∙ ap (λ ws. make row.kind (words_of (take row.names words)) (words_of ws)) (take_rest words row.names)
+    ∙ ap (λ ws. make row.kind ws (words_of (drop row.names words))) (sym (take-map _ row.names words))
+    ∙ ap (λ ws. make row.kind (take row.names (words_of words)) ws) (sym (drop-map _ row.names words)) in
     rw (here, cores, fits_so) made_so
 
 -- words that are so many names and then options fit the row

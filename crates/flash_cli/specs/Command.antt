@@ -5,7 +5,7 @@ use Rattle.std.specs.declared.alloc.Global.{Global}
 use Rattle.pipe_ends.specs.Number.{number_of_text}
 use Rattle.flash_cli.specs.declared.command.Row.{Row as CodeRow}
 use Rattle.flash_cli.specs.declared.command.Kind.{Kind}
-use Rattle.flash_cli.specs.declared.command.Kind.TheVariants.{Choose as ChooseKind, Boot as BootKind, Confirm as ConfirmKind, Reject as RejectKind, ImageMake as ImageMakeKind, ImageCheck as ImageCheckKind, TableMake as TableMakeKind, TableShow as TableShowKind, FlashMake as FlashMakeKind, Update as UpdateKind}
+use Rattle.flash_cli.specs.declared.command.Kind.TheVariants.{Choose as ChooseKind, Boot as BootKind, Confirm as ConfirmKind, Reject as RejectKind, ImageMake as ImageMakeKind, ImageCheck as ImageCheckKind, TableMake as TableMakeKind, TableShow as TableShowKind, FlashMake as FlashMakeKind, Update as UpdateKind, Sweep as SweepKind}
 use Rattle.flash_cli.specs.declared.command.Command.{Command as Parsed}
 use Rattle.flash_cli.specs.declared.command.Command.TheVariants.{Choose as ParsedChoose, Boot as ParsedBoot, Confirm as ParsedConfirm, Reject as ParsedReject, ImageMake as ParsedImageMake, ImageCheck as ParsedImageCheck, TableMake as ParsedTableMake, TableShow as ParsedTableShow, FlashMake as ParsedFlashMake}
 
@@ -34,6 +34,16 @@ update_row = record {
   cores = true;
 }
 
+-- the row of `sweep`
+abbrev pub sweep_row : Row
+sweep_row = record {
+  kind = SweepKind;
+  word = codes "sweep";
+  names = 3;
+  options = codes "--tear" ∷ [];
+  cores = true;
+}
+
 -- the table of commands, in the order of the usage line
 abbrev pub rows : List Row
 rows =
@@ -47,6 +57,7 @@ rows =
     ∷ plain_row TableShowKind (codes "table-show") 1
     ∷ plain_row FlashMakeKind (codes "flash-make") 4
     ∷ update_row
+    ∷ sweep_row
     ∷ []
 
 -- a row of the code
@@ -95,6 +106,7 @@ made FlashMakeKind (table ∷ image ∷ size ∷ out ∷ []) =
     option_map (λ bytes. FlashMake table image bytes out) (number_of_text size)
 made FlashMakeKind _ = None
 made UpdateKind _ = None
+made SweepKind _ = None
 
 -- a command without the borrow of its words
 abbrev pub shown : Parsed → Command
@@ -149,6 +161,21 @@ row_of rows word = find (λ row. bytes_eq row.word word) rows
 abbrev pub command_of : List (List ℕ) → Option Command
 command_of [] = None
 command_of (word ∷ words) = made_by (row_of rows word) words
+
+-- what words make of their names and their options after the word of a row, where there is such a
+-- row, it starts cores and they fit it
+abbrev pub cores_by : {A : Type 0} → (Kind → List (List ℕ) → List (List ℕ) → Option A) → Option Row
+    → List (List ℕ) → Option A
+cores_by make None words = None
+cores_by make (Some row) words =
+    if row.cores && fits row words
+    then make row.kind (take row.names words) (drop row.names words) else None
+
+-- what words make, where they are a command that starts cores
+abbrev pub cores_of : {A : Type 0} → (Kind → List (List ℕ) → List (List ℕ) → Option A)
+    → List (List ℕ) → Option A
+cores_of make [] = None
+cores_of make (word ∷ words) = cores_by make (row_of rows word) words
 
 -- the bytes of each word
 abbrev pub words_of : List (String Global) → List (List ℕ)

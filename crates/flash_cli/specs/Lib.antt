@@ -1,5 +1,6 @@
 pub mod Command
 pub mod UpdateWords
+pub mod SweepWords
 pub mod Status
 pub mod Laid
 pub mod Opening
@@ -22,6 +23,7 @@ pub mod TableShow
 pub mod FlashMake
 pub mod Report
 pub mod Updating
+pub mod Sweeping
 pub mod Served
 pub mod Laws
 pub mod UpdateLaws

@@ -182,49 +182,45 @@ AimsIn flash layout long aim =
 -- what an update of this image begins with, as the program has it
 abbrev pub opening_with : List ℕ → CodeOpening → Opening
 opening_with image o = record {
-  flash = o.device.inner.bytes;
+  flash = o.flash.items;
   image = image;
   script = o.script;
   rows = o.table;
   layout = o.layout;
 }
 
--- the program is to make an update of this image: layout, aim and device are those of the flash
-pub record IsBegun (image : List ℕ) (options : Options) (o : CodeOpening) : Type 0 where
-  pub laid : layout_in o.device.inner.bytes ≡ Ok o.layout
-  pub table : HasTable o.table o.layout o.device.inner.bytes
-  pub aims : AimsIn o.device.inner.bytes o.layout (length image) o.aim
-  pub fresh : IsFresh options o.device.inner.bytes o.device
+-- the program is to make an update of this image: layout and aim are those of the flash
+pub record IsBegun (image : List ℕ) (o : CodeOpening) : Type 0 where
+  pub laid : layout_in o.flash.items ≡ Ok o.layout
+  pub table : HasTable o.table o.layout o.flash.items
+  pub aims : AimsIn o.flash.items o.layout (length image) o.aim
 
 -- an update of this flash, image and script begins so
-pub record BeginsSo (flash image : List ℕ) (script : List Action) (options : Options)
-    (o : CodeOpening) : Type 0 where
+pub record BeginsSo (flash image : List ℕ) (script : List Action) (o : CodeOpening) : Type 0 where
   pub given : opening_from flash image script ≡ Ok (opening_with image o)
-  pub begun : IsBegun image options o
+  pub begun : IsBegun image o
 
 -- it begins so, or it may not begin for this reason
-abbrev pub Begins : List ℕ → List ℕ → List Action → Options → Result CodeOpening Refusal → Type 0
-Begins flash image script options (Ok o) = BeginsSo flash image script options o
-Begins flash image script options (Err reason) = opening_from flash image script ≡ Err reason
+abbrev pub Begins : List ℕ → List ℕ → List Action → Result CodeOpening Refusal → Type 0
+Begins flash image script (Ok o) = BeginsSo flash image script o
+Begins flash image script (Err reason) = opening_from flash image script ≡ Err reason
 
 -- the same, as an error of the command
-abbrev pub OpensBy : List ℕ → List ℕ → List Action → Options → Result CodeOpening CommandError
-    → Type 0
-OpensBy flash image script options (Ok o) = BeginsSo flash image script options o
-OpensBy flash image script options (Err (Refused reason)) =
-    opening_from flash image script ≡ Err reason
-OpensBy flash image script options (Err (Absent file name)) = ⊥
-OpensBy flash image script options (Err (Failed failure)) = ⊥
+abbrev pub OpensBy : List ℕ → List ℕ → List Action → Result CodeOpening CommandError → Type 0
+OpensBy flash image script (Ok o) = BeginsSo flash image script o
+OpensBy flash image script (Err (Refused reason)) = opening_from flash image script ≡ Err reason
+OpensBy flash image script (Err (Absent file name)) = ⊥
+OpensBy flash image script (Err (Failed failure)) = ⊥
 
 -- so it is with an update of these files
-pub record IsOpened (flash image text : List ℕ) (options : Options) (o : CodeOpening) : Type 0 where
+pub record IsOpened (flash image text : List ℕ) (o : CodeOpening) : Type 0 where
   pub given : opening_of flash image text ≡ Ok (opening_with image o)
-  pub begun : IsBegun image options o
+  pub begun : IsBegun image o
 
 -- it begins so, or it may not begin for this reason, or memory ran out
-abbrev pub Opens : List ℕ → List ℕ → List ℕ → Options → Result CodeOpening CommandError → Type 0
-Opens flash image text options (Ok o) = IsOpened flash image text options o
-Opens flash image text options (Err (Refused reason)) = opening_of flash image text ≡ Err reason
-Opens flash image text options (Err (Absent file name)) = ⊥
-Opens flash image text options (Err (Failed Store)) = ⊥
-Opens flash image text options (Err (Failed Memory)) = Unit {0}
+abbrev pub Opens : List ℕ → List ℕ → List ℕ → Result CodeOpening CommandError → Type 0
+Opens flash image text (Ok o) = IsOpened flash image text o
+Opens flash image text (Err (Refused reason)) = opening_of flash image text ≡ Err reason
+Opens flash image text (Err (Absent file name)) = ⊥
+Opens flash image text (Err (Failed Store)) = ⊥
+Opens flash image text (Err (Failed Memory)) = Unit {0}

@@ -1,5 +1,5 @@
 -- The words of `update`: its names and its options.
-use Rattle.std.specs.Prelude.{ℕ, Bool, true, false, not, ◌==◌, ◌&&◌, List, [], ◌∷◌, take, drop, Option, Some, None, option_map, if◌then◌else◌, codes, bytes_eq, String}
+use Rattle.std.specs.Prelude.{ℕ, Bool, true, false, ◌==◌, List, [], ◌∷◌, Option, Some, None, if◌then◌else◌, codes, bytes_eq, String}
 use Rattle.std.specs.declared.alloc.Global.{Global}
 use Rattle.pipe_ends.specs.Number.{number_of_text, number_up_to}
 use Rattle.power_cut.specs.declared.legs.Upto.{Upto}
@@ -8,7 +8,7 @@ use Rattle.flash_cli.specs.declared.command.Kind.{Kind}
 use Rattle.flash_cli.specs.declared.command.Kind.TheVariants.{Update as UpdateKind}
 use Rattle.flash_cli.specs.declared.update_words.Options.{Options}
 use Rattle.flash_cli.specs.declared.update_words.Update.{Update as Parsed}
-use Rattle.flash_cli.specs.Command.{Row, fits, row_of, rows, words_of}
+use Rattle.flash_cli.specs.Command.{cores_of, words_of}
 
 -- the names of an update's files, and its options
 pub record Update : Type 0 where
@@ -100,18 +100,9 @@ abbrev pub update_made : Kind → List (List ℕ) → List (List ℕ) → Option
 update_made UpdateKind names options = with_value (options_of options) (named names)
 update_made _ names options = None
 
--- the update that words make after the word of a row, where there is such a row, it starts cores
--- and they fit it
-abbrev pub update_by : Option Row → List (List ℕ) → Option Update
-update_by None words = None
-update_by (Some row) words =
-    if row.cores && fits row words
-    then update_made row.kind (take row.names words) (drop row.names words) else None
-
 -- the update that words are, where they are one
 abbrev pub update_of : List (List ℕ) → Option Update
-update_of [] = None
-update_of (word ∷ words) = update_by (row_of rows word) words
+update_of words = cores_of update_made words
 
 -- the update that is asked for by these words, where they are one
 abbrev pub asked_update : List (String Global) → Option Update

@@ -30,6 +30,8 @@ pub(crate) enum Kind {
     FlashMake,
     /// `update FLASH IMAGE SCRIPT OUT`
     Update,
+    /// `sweep FLASH IMAGE SCRIPT`
+    Sweep,
 }
 
 /// A row of the table of commands: the word, how many names stand after it, the words of the
@@ -44,7 +46,7 @@ pub(crate) struct Row {
 }
 
 /// How many commands there are.
-const COMMANDS: usize = 10;
+const COMMANDS: usize = 11;
 
 /// The table of commands, in the order of the usage line.
 pub(crate) fn table() -> [Row; COMMANDS]
@@ -65,6 +67,13 @@ pub(crate) fn table() -> [Row; COMMANDS]
             word: "update",
             names: 4,
             options: &["--driver", "--cut", "--tear", "--fail", "--upto"],
+            cores: true,
+        },
+        Row {
+            kind: Kind::Sweep,
+            word: "sweep",
+            names: 3,
+            options: &["--tear"],
             cores: true,
         },
     ]
@@ -190,6 +199,7 @@ impl<'a> Command<'a> {
             }
             (Kind::FlashMake, _) => None,
             (Kind::Update, _) => None,
+            (Kind::Sweep, _) => None,
         }
     }
 }

@@ -27,6 +27,11 @@ mod running;
 mod serve;
 mod served;
 mod status;
+#[cfg(test)]
+mod sweep_tests;
+mod sweep_words;
+mod sweeping;
+mod swept;
 mod table_make;
 mod table_show;
 #[cfg(test)]

@@ -8,25 +8,23 @@ ghost use Rattle.partition_table.specs.Rules.{FitsFlash};
 ghost use Rattle.core_script.specs.ScriptText.{script_of_text};
 ghost use Rattle.flash_cli.specs.Device.{IsSure};
 ghost use Rattle.flash_cli.specs.Laid.{layout_or_refusal};
-ghost use Rattle.flash_cli.specs.Opening.{AimsIn, AreOptions, Begins, IsAimRefusal, IsFresh, IsLook, Opens, OpensBy, next_in, rows_in, script_or_refusal, with_need};
+ghost use Rattle.flash_cli.specs.Opening.{AimsIn, Begins, IsAimRefusal, IsLook, Opens, OpensBy, next_in, rows_in, script_or_refusal, with_need};
 ghost use Rattle.flash_cli.specs.Report.{IsFound};
 
-use crate::device::{POLLS, bytes_of, device_of};
+use crate::device::{bytes_of, device_of};
 use crate::error::{CommandError, Failure};
-use crate::update_words::Options;
 use boot_run::{Aim, AimNo, aim};
 use core_script::{Script, ScriptNo};
-use crash_images::CutNor;
 use flash_text::Refusal;
-use nor_device::{Nor, RamNor, is_flash_size};
+use nor_device::{Nor, is_flash_size};
 use partition_table::{Layout, TABLE_OFFSET, TABLE_SIZE, Table};
 use std::alloc::Global;
 
-/// What an update begins with: its device, the script of the core beside the driver, the table and
-/// the layout of its flash, and what it will write.
+/// What an update begins with: the bytes of its flash, the script of the core beside the driver, the
+/// table and the layout of the flash, and what it will write.
 #[derive(Drop)]
 pub(crate) struct Opening {
-    pub(crate) device: CutNor<RamNor>,
+    pub(crate) flash: Vec<u8>,
     pub(crate) script: Script,
     pub(crate) table: Table,
     pub(crate) layout: Layout,
@@ -40,28 +38,20 @@ pub(crate) fn opened(
     flash: Vec<u8>,
     image: &[u8],
     text: &[u8],
-    options: &Options,
 ) -> Result<Opening, CommandError>
-    requires options { AreOptions options.now }
-    ensures exact { Opens flash.items image.now text.now options.now result }
+    ensures exact { Opens flash.items image.now text.now result }
 {
     match script_of(alloc, text) {
-        Ok(script) => opened_by(flash, image, script, options),
+        Ok(script) => opened_by(flash, image, script),
         Err(error) => Err(error),
     }
 }
 
 /// The same by a script.
-fn opened_by(
-    flash: Vec<u8>,
-    image: &[u8],
-    script: Script,
-    options: &Options,
-) -> Result<Opening, CommandError>
-    requires options { AreOptions options.now }
-    ensures exact { OpensBy flash.items image.now script options.now result }
+fn opened_by(flash: Vec<u8>, image: &[u8], script: Script) -> Result<Opening, CommandError>
+    ensures exact { OpensBy flash.items image.now script result }
 {
-    match begin(flash, image, script, options) {
+    match begin(flash, image, script) {
         Ok(opening) => Ok(opening),
         Err(why) => Err(CommandError::Refused(why)),
     }
@@ -69,14 +59,8 @@ fn opened_by(
 
 /// What an update of a flash by an image and a script begins with, or the first reason why it may
 /// not begin: the size of the flash, its table, its layout, what runs and what is written.
-fn begin(
-    flash: Vec<u8>,
-    image: &[u8],
-    script: Script,
-    options: &Options,
-) -> Result<Opening, Refusal>
-    requires options { AreOptions options.now }
-    ensures exact { Begins flash.items image.now script options.now result }
+fn begin(flash: Vec<u8>, image: &[u8], script: Script) -> Result<Opening, Refusal>
+    ensures exact { Begins flash.items image.now script result }
 {
     let table = match table_in(&flash) {
         Ok(table) => table,
@@ -88,7 +72,7 @@ fn begin(
     };
     match aim_at(flash, &layout, image.len()) {
         Ok((aim, flash)) => Ok(Opening {
-            device: chosen_device(flash, options),
+            flash,
             script,
             table,
             layout,
@@ -144,21 +128,6 @@ fn layout_by(table: &Table, size: usize) -> Result<Layout, Refusal>
         Ok(layout) => Ok(layout),
         Err(why) => Err(Refusal::Table(why)),
     }
-}
-
-/// The device over the bytes of a flash, which are not copied, with the chosen step. It is idle,
-/// and made no step.
-fn chosen_device(flash: Vec<u8>, options: &Options) -> CutNor<RamNor>
-    requires size { IsFlashSize (length flash.items) }
-    requires options { AreOptions options.now }
-    ensures fresh { IsFresh options.now flash.items result }
-{
-    CutNor::new(
-        RamNor::of_bytes(flash, POLLS),
-        options.cut,
-        options.tear,
-        options.fail,
-    )
 }
 
 /// What an update of so many bytes would write, and the flash, of which nothing is changed.

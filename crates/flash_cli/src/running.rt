@@ -1,6 +1,7 @@
 //! An update that began, with both cores at work.
 
-ghost use Rattle.std.specs.Prelude.{◌≡◌, ◌≢◌, ◌<◌, Some, Ok, IfOk};
+ghost use Rattle.std.specs.Prelude.{◌≡◌, ◌≢◌, ◌<◌, Some, Ok, IfOk, length};
+ghost use Rattle.nor_device.specs.FlashSize.{IsFlashSize};
 ghost use Rattle.partition_table.specs.Layout.{Places, layout_of};
 ghost use Rattle.boot_select.specs.Boots.{entries_in, images_in};
 ghost use Rattle.image_verify.specs.Held.{held};
@@ -10,10 +11,11 @@ ghost use Rattle.power_cut.specs.Update.{BootsEither, Opens};
 ghost use Rattle.power_cut.specs.Whole.{AreDone, BootsNew, IsTrial};
 ghost use Rattle.duo_run.specs.Both.{HasTable};
 ghost use Rattle.duo_run.specs.Legs.{IsDuoConfirm, IsDuoSession, MayAffirm, MayInstall};
-ghost use Rattle.flash_cli.specs.Opening.{AreOptions, IsBegun, opening_with};
+ghost use Rattle.flash_cli.specs.Opening.{AreOptions, IsBegun, IsFresh, opening_with};
 ghost use Rattle.flash_cli.specs.Served.{AreReadable};
 ghost use Rattle.flash_cli.specs.Updating.{IsUpdate};
 
+use crate::device::POLLS;
 use crate::opening::Opening;
 use crate::update_words::Options;
 use boot_run::{Aim, Booted};
@@ -40,12 +42,12 @@ pub(crate) fn run<P: Pace + Sync, R: Threads + Wait + Sync>(
     pace: &P,
 ) -> Result<Trial, Memory>
     requires options { AreOptions options.now }
-    requires begun { IsBegun image.now options.now opening }
+    requires begun { IsBegun image.now opening }
     ensures update { IfOk result (IsUpdate options.now (opening_with image.now opening)) }
     ensures readable { IfOk result AreReadable }
 {
     let Opening {
-        device,
+        flash,
         script,
         table,
         layout,
@@ -55,6 +57,7 @@ pub(crate) fn run<P: Pace + Sync, R: Threads + Wait + Sync>(
     // so few actions that its steps can be counted.
     whole_images_show_no_fault();
     let _few = script.len();
+    let device = chosen_device(flash, options);
     let duo = Duo {
         table: &table,
         script: &script,
@@ -111,4 +114,19 @@ fn run_legs<P: Pace + Sync, R: Threads + Wait + Sync>(
             duo.entry.now.driver layout at.now write.now dev ran) }
     { duo.confirm(rt, alloc, dev, at, write) };
     trial(device, layout, aim, image, upto, &Legs { session, confirm })
+}
+
+/// The device over the bytes of a flash, which are not copied, with the chosen step. It is idle,
+/// and made no step.
+fn chosen_device(flash: Vec<u8>, options: &Options) -> CutNor<RamNor>
+    requires size { IsFlashSize (length flash.items) }
+    requires options { AreOptions options.now }
+    ensures fresh { IsFresh options.now flash.items result }
+{
+    CutNor::new(
+        RamNor::of_bytes(flash, POLLS),
+        options.cut,
+        options.tear,
+        options.fail,
+    )
 }

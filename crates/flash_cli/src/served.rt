@@ -76,7 +76,7 @@ fn tell_update<S: Store, K: Sink>(
 }
 
 /// Pushes lines; the status of the call, which is this one if they were pushed.
-fn push_lines<K: Sink>(alloc: Global, text: &[u8], status: Status, out: &mut K) -> Status
+pub(crate) fn push_lines<K: Sink>(alloc: Global, text: &[u8], status: Status, out: &mut K) -> Status
     requires work { IsUpdateWork status }
     ensures pushed { IsPushed text.now status result (K.pushed out.old) (K.pushed out.new) }
     ensures sink_fault { result ≡ Status.SinkFault
@@ -89,8 +89,8 @@ fn push_lines<K: Sink>(alloc: Global, text: &[u8], status: Status, out: &mut K) 
     }
 }
 
-/// Ends a call with an update that was not made: the line of its refusal is pushed.
-pub(crate) fn refuse_update<K: Sink>(alloc: Global, error: CommandError, out: &mut K) -> Served
+/// Ends a call with an update or a sweep that was not made: the line of its refusal is pushed.
+pub(crate) fn refuse_call<K: Sink>(alloc: Global, error: CommandError, out: &mut K) -> Served
     ensures trial { result.trial ≡ None }
     ensures ends { Refuses error result.status (K.pushed out.old) (K.pushed out.new) }
     ensures sink_fault { result.status ≡ Status.SinkFault

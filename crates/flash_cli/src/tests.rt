@@ -55,7 +55,7 @@ const THIRD: Numbers = (3, VALID, 0xED4A5011);
 const UNCHANGED: (usize, u8) = (usize::MAX, 0);
 
 pub(crate) const USAGE: &str = "usage: flash_cli choose|boot|confirm|reject|image-make|image-check|\
-    table-make|table-show|flash-make|update\n";
+    table-make|table-show|flash-make|update|sweep\n";
 
 pub(crate) const BLANK_LINES: &str = "entry 0 seq 4294967295 state UNDEFINED invalid
 entry 1 seq 4294967295 state UNDEFINED invalid

@@ -325,7 +325,7 @@ fn left_flashes<'a>() -> [Left<'a>; 6] {
 }
 
 /// A store with flashes, images and scripts.
-fn store_of_updates(alloc: Global) -> Result<MemStore, Fail> {
+pub(crate) fn store_of_updates(alloc: Global) -> Result<MemStore, Fail> {
     let mut store = store_of_flashes(alloc)?;
     store.put(alloc, "actions", ACTIONS)?;
     store.put(alloc, "writes", WRITES)?;

@@ -108,7 +108,7 @@ impl Options {
 }
 
 /// The value of an option among options with their values, if it is there.
-fn value_of<'a>(option: &str, words: &'a [String]) -> Option<&'a str>
+pub(crate) fn value_of<'a>(option: &str, words: &'a [String]) -> Option<&'a str>
     ensures exact { option_copied result ≡ value_of option.now (words_of words.now) }
 {
     match words {
@@ -153,7 +153,7 @@ fn step_by(value: Option<&str>) -> Option<Option<u64>>
 }
 
 /// The number of the bytes that a broken step leaves, 0 where nothing is said.
-fn tear_by(value: Option<&str>) -> Option<u64>
+pub(crate) fn tear_by(value: Option<&str>) -> Option<u64>
     ensures exact { result ≡ tear_by (option_copied value.entry) }
 {
     match value {

@@ -53,7 +53,7 @@ fn update_of<P: Pace + Sync, R: Threads + Wait + Sync>(
     ensures exact { UpdateOf flash.items image.now text.now options.now result }
     ensures readable { IfOk result AreReadable }
 {
-    let opening = opened(alloc, flash, image, text, options)?;
+    let opening = opened(alloc, flash, image, text)?;
     match run(rt, alloc, opening, image, options, pace) {
         Ok(trial) => Ok(trial),
         Err(_) => Err(CommandError::Failed(Failure::Memory)),

@@ -1,5 +1,5 @@
-use Rattle.std.proofs.Common.{ap, refl, subst, ◌∙◌}
-use Rattle.flash_cli.specs.Opening.{IsFresh, rows_in}
+use Rattle.std.proofs.Common.{ap, refl, ◌∙◌}
+use Rattle.flash_cli.specs.Opening.{rows_in}
 use Rattle.flash_cli.proofs.OpeningLemmas.{aim_fails, begins_so, layout_fails, rows_fail}
 use Rattle.flash_cli.proofs.opening.begin.Goals as goal
 
@@ -28,14 +28,13 @@ returns-in-Err-aim_at c = record {
 -- one may
 pub returns-in-Ok-aim_at : goal.returns-in-Ok-aim_at
 returns-in-Ok-aim_at c = record {
-  exact = begins_so _ _ _ (record {
-    device = c.chosen_device.result;
+  exact = begins_so _ _ (record {
+    flash = c.in-Ok-aim_at.flash;
     script = c.args.script;
     table = c.in-Ok.table;
     layout = c.in-Ok-layout_by.layout;
     aim = c.in-Ok-aim_at.aim;
-  }) _ (rw c.deref.ensures.value at c.in-Ok.ensures.size) (c.in-Ok.ensures.exact ∙ ap rows_in c.deref.ensures.value)
-      c.in-Ok-layout_by.ensures.exact refl c.in-Ok-aim_at.ensures.aims
-      (subst (λ bytes. IsFresh c.args.options.now bytes c.chosen_device.result) c.in-Ok-aim_at.ensures.same
-      c.chosen_device.ensures.fresh);
+  }) _ (rw c.deref.ensures.value at c.in-Ok.ensures.size)
+      (c.in-Ok.ensures.exact ∙ ap rows_in c.deref.ensures.value)
+      c.in-Ok-layout_by.ensures.exact refl c.in-Ok-aim_at.ensures.aims c.in-Ok-aim_at.ensures.same;
 }

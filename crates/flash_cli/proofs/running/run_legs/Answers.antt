@@ -1,4 +1,4 @@
-use Rattle.flash_cli.proofs.RunLemmas.{duo_affirms, duo_keeps}
+use Rattle.duo_run.proofs.OpeningLemmas.{duo_affirms, duo_keeps}
 use Rattle.flash_cli.proofs.TrialLemmas.{trial_of}
 use Rattle.flash_cli.proofs.running.run_legs.Goals as goal
 

@@ -1,11 +1,12 @@
 use Rattle.flash_cli.specs.Command.{shown_row}
-use Rattle.flash_cli.proofs.WordLemmas.{update_read}
+use Rattle.flash_cli.specs.UpdateWords.{update_made}
+use Rattle.flash_cli.proofs.WordLemmas.{cores_read}
 use Rattle.flash_cli.proofs.update_words.Update.read.Goals as goal
 
 -- the row of the first word makes the update of the others
 pub returns-then-fits-clause-exact : goal.returns-then-fits-clause-exact
 returns-then-fits-clause-exact c =
-    update_read c.args.words.now c.word-item.result _ (shown_row c.in_ok-row.row) _ _ _
+    cores_read update_made c.args.words.now c.word-item.result _ (shown_row c.in_ok-row.row) _ _ _
     c.in-len1-up.len_at_least c.word-item.is c.as_str.ensures.value c.table.ensures.exact
     c.in_ok-row.ensures.exact c.if-row.true c.fits.ensures.exact c.if-fits.true
     c.made.ensures.exact

@@ -1,0 +1,203 @@
+-- The sweep that the program makes of what it began with, by the legs of both cores.
+use mathlib.Core.Logic.{inl, inr}
+use Rattle.std.proofs.Common.{◌≡◌, ℕ, suc, false, List, [], ◌∷◌, Option, Some, None, Result, Ok, Err, refl, sym, subst}
+use Rattle.std.specs.Prelude.{IfErr, IfOk, codes}
+use Rattle.std.specs.Borrow.{Bor}
+use Rattle.nor_device.specs.Ram.{Ram}
+use Rattle.crash_images.specs.Cut.{CutDevice}
+use Rattle.partition_table.specs.declared.row.Row.{Row}
+use Rattle.partition_table.specs.Layout.{Places}
+use Rattle.rollback.specs.declared.rewrite.Rewrite.{Rewrite}
+use Rattle.boot_run.specs.declared.aims.Aim.{Aim}
+use Rattle.boot_run.specs.declared.booted.Booted.{Booted}
+use Rattle.power_cut.specs.declared.legs.LegEnd.{LegEnd}
+use Rattle.power_cut.specs.declared.legs.LegEnd.TheVariants as ends
+use Rattle.power_cut.specs.declared.legs.Ran.{Ran}
+use Rattle.power_cut.specs.declared.legs.Upto.TheVariants.{Confirm}
+use Rattle.power_cut.specs.declared.outcome.Trial.{Trial}
+use Rattle.power_cut.specs.declared.swept.Sweep.{Sweep as Swept}
+use Rattle.power_cut.specs.declared.swept.SweepNo.{SweepNo}
+use Rattle.power_cut.specs.declared.swept.SweepNo.TheVariants.{Refused as RefusedSession, Memory as NoMemory}
+use Rattle.power_cut.specs.Device.{IsWholeEnd}
+use Rattle.power_cut.specs.Update.{Opens, session_end, slot_size}
+use Rattle.power_cut.specs.Sweep.{AreCutFrom, IsFresh, IsRefused, IsRefusedBy, IsSweep, IsUpdateOf}
+use Rattle.power_cut.specs.Whole.{is_done}
+use Rattle.power_cut.proofs.SweepLemmas.{fresh_ready}
+use Rattle.duo_run.specs.Both.{HasTable}
+use Rattle.duo_run.specs.Legs.{MayInstall}
+use Rattle.flash_text.specs.declared.refusal.Refusal.{Refusal}
+use Rattle.flash_cli.specs.declared.opening.Opening.{Opening as CodeOpening}
+use Rattle.flash_cli.specs.declared.status.Status.TheVariants.{Refused}
+use Rattle.flash_cli.specs.Answer.{refused_outcome}
+use Rattle.flash_cli.specs.Opening.{IsBegun, Opening, opening_with}
+use Rattle.flash_cli.specs.Legs.{Confirms, Writes}
+use Rattle.flash_cli.specs.Updating.{status_by}
+use Rattle.flash_cli.specs.Sweeping.{IsRefusedEnd, IsSwept, IsUnswept, IsUnsweptBy, SweepComes, swept_outcome}
+use Rattle.flash_cli.proofs.TrialLemmas.{trial_by}
+use Rattle.flash_cli.proofs.UpdateLaws.{whole_session}
+
+-- ---- a sweep by other words on its legs
+
+module _ (writes so_writes : CutDevice Ram → Ran → Type 0)
+    (confirms so_confirms : CutDevice Ram → Bor Booted → Bor Rewrite → Ran → Type 0)
+    (written : (dev : CutDevice Ram) (ran : Ran) → writes dev ran → so_writes dev ran)
+    (confirmed : (dev : CutDevice Ram) (at : Bor Booted) (write : Bor Rewrite) (ran : Ran)
+    → confirms dev at write ran → so_confirms dev at write ran)
+    (layout : Places) (flash : List ℕ) (tear : ℕ) (aim : Aim) (image : List ℕ) where
+  update_by : (cut : Option ℕ) (t : Trial) → IsUpdateOf writes confirms layout flash tear cut t
+      → IsUpdateOf so_writes so_confirms layout flash tear cut t
+  update_by cut t update = record {
+    dev = update.dev;
+    fresh = update.fresh;
+    trial = trial_by confirms so_confirms layout flash
+        (λ dev at write ran may is. confirmed dev at write ran is) (writes update.dev)
+        (so_writes update.dev) Confirm t (written update.dev) update.trial;
+    end = update.end;
+  }
+
+  cuts_by : (k : ℕ) (after : List Booted)
+      → AreCutFrom writes confirms layout flash tear aim image k after
+      → AreCutFrom so_writes so_confirms layout flash tear aim image k after
+  cuts_by k [] cuts = tt
+  cuts_by k (booted ∷ more) cuts =
+      let cut = cuts.0 in (
+        record {
+          t = cut.t;
+          update = update_by (Some k) cut.t cut.update;
+          after = cut.after;
+          boots = cut.boots;
+          shows = cut.shows;
+        },
+        cuts_by (suc k) more cuts.1,
+      )
+
+  sweep_by : (s : Swept) → IsSweep writes confirms layout flash tear aim image s
+      → IsSweep so_writes so_confirms layout flash tear aim image s
+  sweep_by s is = record {
+    whole = is.whole;
+    update = update_by None is.whole is.update;
+    done = is.done;
+    installed = is.installed;
+    steps = is.steps;
+    places = is.places;
+    cuts = cuts_by 1 s.after.items is.cuts;
+  }
+
+  refused_by : (reason : SweepNo)
+      → IsRefusedBy writes confirms layout flash tear aim image reason
+      → IsRefusedBy so_writes so_confirms layout flash tear aim image reason
+  refused_by (RefusedSession end) is = record {
+    t = is.t;
+    update = update_by None is.t is.update;
+    leg = is.leg;
+    only = is.only;
+    end_is = is.end_is;
+    session = is.session;
+    not_done = is.not_done;
+  }
+  refused_by NoMemory is = tt
+
+-- the same of an answer
+pub sweep_with : {E : Type 0} (r : Result Swept E) (layout : Places) (flash : List ℕ) (tear : ℕ)
+    (aim : Aim) (image : List ℕ) (writes : CutDevice Ram → Ran → Type 0)
+    (confirms : CutDevice Ram → Bor Booted → Bor Rewrite → Ran → Type 0)
+    → IfOk r (IsSweep writes confirms layout flash tear aim image)
+    → (so_writes : CutDevice Ram → Ran → Type 0)
+    → (so_confirms : CutDevice Ram → Bor Booted → Bor Rewrite → Ran → Type 0)
+    → ((dev : CutDevice Ram) (ran : Ran) → writes dev ran → so_writes dev ran)
+    → ((dev : CutDevice Ram) (at : Bor Booted) (write : Bor Rewrite) (ran : Ran)
+    → confirms dev at write ran → so_confirms dev at write ran)
+    → IfOk r (IsSweep so_writes so_confirms layout flash tear aim image)
+sweep_with (Ok s) layout flash tear aim image writes confirms is so_writes so_confirms written confirmed =
+    sweep_by writes so_writes confirms so_confirms written confirmed layout flash tear aim image s is
+sweep_with (Err reason) layout flash tear aim image writes confirms is so_writes so_confirms written confirmed = tt
+
+pub refused_with : {T : Type 0} (r : Result T SweepNo) (layout : Places) (flash : List ℕ)
+    (tear : ℕ) (aim : Aim) (image : List ℕ) (writes : CutDevice Ram → Ran → Type 0)
+    (confirms : CutDevice Ram → Bor Booted → Bor Rewrite → Ran → Type 0)
+    → IfErr r (IsRefusedBy writes confirms layout flash tear aim image)
+    → (so_writes : CutDevice Ram → Ran → Type 0)
+    → (so_confirms : CutDevice Ram → Bor Booted → Bor Rewrite → Ran → Type 0)
+    → ((dev : CutDevice Ram) (ran : Ran) → writes dev ran → so_writes dev ran)
+    → ((dev : CutDevice Ram) (at : Bor Booted) (write : Bor Rewrite) (ran : Ran)
+    → confirms dev at write ran → so_confirms dev at write ran)
+    → IfErr r (IsRefusedBy so_writes so_confirms layout flash tear aim image)
+refused_with (Ok s) layout flash tear aim image writes confirms is so_writes so_confirms written confirmed = tt
+refused_with (Err reason) layout flash tear aim image writes confirms is so_writes so_confirms written confirmed =
+    refused_by writes so_writes confirms so_confirms written confirmed layout flash tear aim image reason is
+
+-- a session may be run on each fresh device over the flash
+pub may_install : (rows : List Row) (layout : Places) (flash : List ℕ) (aim : Aim)
+    (image : List ℕ) (tear : ℕ) (cut : Option ℕ) (dev : CutDevice Ram)
+    → HasTable rows layout flash → Opens layout flash aim image → IsFresh flash cut tear dev
+    → MayInstall rows layout aim image dev
+may_install rows layout flash aim image tear cut dev has opens fresh = record {
+  ready = fresh_ready flash cut tear dev fresh;
+  table = subst (HasTable rows layout) (sym fresh.bytes) has;
+  opens = subst (λ bytes. Opens layout bytes aim image) (sym fresh.bytes) opens;
+}
+
+-- ---- a sweep that began
+
+module _ (tear : ℕ) (o : CodeOpening) (image : List ℕ) (begun : IsBegun image o)
+    (flash : List ℕ) (same : flash ≡ o.flash.items) where
+  pub swept_so : {E : Type 0} (r : Result Swept E)
+      → IfOk r (IsSweep (Writes (opening_with image o) 0 o.aim) (Confirms (opening_with image o) 0)
+      o.layout flash tear o.aim image)
+      → IfOk r (λ s. session_end (slot_size o.layout o.aim.slot) image ≡ ends.Done)
+      → IfOk r (IsSwept tear (opening_with image o))
+  swept_so (Ok s) is whole = record {
+    aim = o.aim;
+    aims = begun.aims;
+    whole = whole;
+    sweep = subst (λ bytes. IsSweep (Writes (opening_with image o) 0 o.aim)
+        (Confirms (opening_with image o) 0) o.layout bytes tear o.aim image s) same is;
+  }
+  swept_so (Err reason) is whole = tt
+
+  unswept_by : (reason : SweepNo)
+      → IsRefusedBy (Writes (opening_with image o) 0 o.aim) (Confirms (opening_with image o) 0)
+      o.layout flash tear o.aim image reason
+      → IsUnsweptBy tear (opening_with image o) reason
+  unswept_by (RefusedSession end) is = record {
+    aim = o.aim;
+    aims = begun.aims;
+    refused = subst (λ bytes. IsRefused (Writes (opening_with image o) 0 o.aim)
+        (Confirms (opening_with image o) 0) o.layout bytes tear o.aim image end) same is;
+  }
+  unswept_by NoMemory is = tt
+
+  pub unswept_so : {T : Type 0} (r : Result T SweepNo)
+      → IfErr r (IsRefusedBy (Writes (opening_with image o) 0 o.aim)
+      (Confirms (opening_with image o) 0) o.layout flash tear o.aim image)
+      → IfErr r (IsUnsweptBy tear (opening_with image o))
+  unswept_so (Ok s) is = tt
+  unswept_so (Err reason) is = unswept_by reason is
+
+-- ---- what it comes to
+
+pub swept_comes : (tear : ℕ) (begins : Result Opening Refusal) (o : Opening) (s : Swept)
+    → begins ≡ Ok o → IsSwept tear o s → SweepComes tear (Ok begins) (swept_outcome s)
+swept_comes tear begins o s begun is =
+    rw begun (inl (record { swept = s; is = is; outcome_is = refl }))
+
+pub unswept_comes : (tear : ℕ) (begins : Result Opening Refusal) (o : Opening) (end : LegEnd)
+    (why : Refusal) → begins ≡ Ok o → IsUnswept tear o end → status_by end ≡ Refused why
+    → SweepComes tear (Ok begins) (refused_outcome (codes "") why)
+unswept_comes tear begins o end why begun is status =
+    rw begun (inr (record { end = end; is = is; why = why; why_is = status; outcome_is = refl }))
+
+-- a session that is refused ends by its bytes
+refused_whole : (end : LegEnd) → IsWholeEnd end → is_done end ≡ false → IsRefusedEnd end
+refused_whole ends.Done whole undone = absurd (cc)
+refused_whole (ends.Device step) whole undone = whole
+refused_whole (ends.Cut step) whole undone = whole
+refused_whole (ends.FirstByte byte) whole undone = tt
+refused_whole ends.Empty whole undone = tt
+refused_whole (ends.Bad why) whole undone = tt
+
+pub unswept_end : (tear : ℕ) (o : Opening) (end : LegEnd) → IsUnswept tear o end
+    → IsRefusedEnd end
+unswept_end tear o end is =
+    refused_whole end (subst IsWholeEnd is.refused.session
+    (whole_session (slot_size o.layout is.aim.slot) o.image)) is.refused.not_done
