@@ -22,3 +22,4 @@ pub mod RunLemmas
 pub mod UpdateLaws
 pub mod SweepLemmas
 pub mod SweptLemmas
+pub mod InstallLaws

@@ -27,3 +27,4 @@ pub mod Sweeping
 pub mod Served
 pub mod Laws
 pub mod UpdateLaws
+pub mod Installs

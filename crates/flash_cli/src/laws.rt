@@ -2,6 +2,7 @@
 
 ghost use Rattle.flash_cli.specs.Laws.{UsageIsOfNoCommand, NoCommandIsUsage, ToldFilesDetermine, RefusedPutsNothing, FaultlessIsWork, MadeIsWhole, MadeIsFactoryFlash};
 ghost use Rattle.flash_cli.specs.UpdateLaws.{CutIsReached, ElseByImage, FailureIsReached};
+ghost use Rattle.flash_cli.specs.Installs.{FaultlessUpdateInstalls};
 
 use image_maker::made_images_are_whole;
 use image_verify::whole_images_show_no_fault;
@@ -51,4 +52,11 @@ pub(crate) fn updates_end_in_their_chosen_step()
     ensures cut { CutIsReached }
     ensures failure { FailureIsReached }
     ensures image { ElseByImage }
+{}
+
+/// An update whose files refuse nothing, whose image is whole and fits, and of which no step was
+/// chosen to end badly installs its image, where neither the store nor the sink failed, unless
+/// memory runs out: the status is done, and the flash that the files and the words give is put.
+pub(crate) fn an_update_without_a_fault_installs_its_image()
+    ensures installed { FaultlessUpdateInstalls }
 {}

@@ -1,0 +1,134 @@
+-- An update in which nothing fails is carried out.
+use mathlib.Core.Logic.{◌⊎◌, inl, inr}
+use Rattle.std.proofs.Common.{◌≡◌, ◌≢◌, ℕ, Bool, true, false, List, [], ◌∷◌, length, Option, Some, None, Ok, refl, sym, ap, ◌∙◌, subst}
+use Rattle.std.specs.Prelude.{◌&&◌}
+use Rattle.pipe_ends.specs.Store.{Files}
+use Rattle.boot_run.specs.declared.aims.Aim.{Aim}
+use Rattle.crash_images.specs.Cut.{CutDevice}
+use Rattle.nor_device.specs.Ram.{Ram}
+use Rattle.power_cut.specs.declared.legs.Leg.{Leg}
+use Rattle.power_cut.specs.declared.legs.LegEnd.{LegEnd}
+use Rattle.power_cut.specs.declared.legs.LegEnd.TheVariants.{Done as DoneEnd, Device, Cut, FirstByte, Empty, Bad}
+use Rattle.power_cut.specs.declared.legs.Upto.{Upto}
+use Rattle.power_cut.specs.declared.outcome.Trial.{Trial}
+use Rattle.power_cut.specs.Update.{session_end, slot_size}
+use Rattle.power_cut.specs.Whole.{AreDone, BehindBoot, BehindSession, is_done, wants_boot, wants_confirm}
+use Rattle.flash_cli.specs.declared.status.Status.{Status}
+use Rattle.flash_cli.specs.declared.status.Status.TheVariants.{Done, Usage, Refused, StoreFault, DeviceFault, PowerCut, Memory, SinkFault}
+use Rattle.flash_cli.specs.Answer.{Outcome}
+use Rattle.flash_cli.specs.Legs.{Confirms}
+use Rattle.flash_cli.specs.Opening.{AimsIn, Opening}
+use Rattle.flash_cli.specs.Reading.{read_in}
+use Rattle.flash_cli.specs.UpdateWords.{Update}
+use Rattle.flash_cli.specs.Updating.{IsUpdate, UpdateComes, UpdateEndsWhole, count_of, last_end, outcome_of_trial, status_by, update_reading}
+use Rattle.flash_cli.specs.Installs.{FaultlessUpdateInstalls, IsFitting, IsInstalled, flash_of}
+use Rattle.flash_cli.proofs.EndLemmas.{done_is, second_true, unbroken_end}
+use Rattle.flash_cli.proofs.OutcomeLemmas.{comes_only}
+
+-- ---- an update whose last leg was made whole was made whole
+
+done_behind_boot : (o : Opening) (driver : ℕ) (b : Bool) (s l : Leg) (dev : CutDevice Ram)
+    (t : Trial) → s.end ≡ DoneEnd → (b ≡ true → l.end ≡ DoneEnd)
+    → BehindBoot (Confirms o driver) o.layout o.flash b (s ∷ l ∷ []) dev t
+    → last_end t.legs.items ≡ DoneEnd → AreDone t.legs.items
+done_behind_boot o driver false s l dev t before test ends last =
+    let this : l.end ≡ DoneEnd = sym (ap last_end ends.legs_are) ∙ last in
+    subst AreDone (sym ends.legs_are) (before, (this, tt))
+done_behind_boot o driver true s l dev t before test ends last =
+    let this : ends.ran.leg.end ≡ DoneEnd = sym (ap last_end ends.ends.legs_are) ∙ last in
+    subst AreDone (sym ends.ends.legs_are) (before, (test refl, (this, tt)))
+
+done_behind_session : (o : Opening) (driver : ℕ) (b : Bool) (upto : Upto) (s : Leg)
+    (dev : CutDevice Ram) (t : Trial) → (b ≡ true → s.end ≡ DoneEnd)
+    → BehindSession (Confirms o driver) o.layout o.flash b upto s dev t
+    → last_end t.legs.items ≡ DoneEnd → AreDone t.legs.items
+done_behind_session o driver false upto s dev t test ends last =
+    let this : s.end ≡ DoneEnd = sym (ap last_end ends.legs_are) ∙ last in
+    subst AreDone (sym ends.legs_are) (this, tt)
+done_behind_session o driver true upto s dev t test ends last =
+    done_behind_boot o driver _ s ends.leg ends.new t (test refl)
+    (λ both. done_is ends.leg.end (second_true (wants_confirm upto) (is_done ends.leg.end) both))
+    ends.behind last
+
+all_done : (u : Update) (o : Opening) (t : Trial) → IsUpdate u.options o t
+    → last_end t.legs.items ≡ DoneEnd → AreDone t.legs.items
+all_done u o t is last =
+    let leg = is.trial.session.leg in
+    done_behind_session o u.options.driver _ u.options.upto leg is.trial.session.dev t
+    (λ both. done_is leg.end (second_true (wants_boot u.options.upto) (is_done leg.end) both))
+    is.trial.behind last
+
+-- ---- an update that fits
+
+-- its last leg was made whole
+last_done : (u : Update) (o : Opening) (t : Trial) (is : IsUpdate u.options o t)
+    → IsFitting u.options o is.aim → last_end t.legs.items ≡ DoneEnd
+last_done u o t is fits =
+    is.ends
+    ∙ unbroken_end u.options.cut u.options.fail (count_of u.options o is.aim) _ fits.cut_ahead
+    fits.fail_ahead
+    ∙ fits.whole
+
+module _ (files : Files) (u : Update) (o : Opening)
+    (read : read_in files 0 (update_reading u) ≡ Ok (Ok o))
+    (fits : (aim : Aim) → AimsIn o.flash o.layout (length o.image) aim
+    → IsFitting u.options o aim) where
+  -- whatever it ended with whole, it was made
+  made_so : (status : Status) (trial : Option Trial) (put : Option Files)
+      (before after : Option (List ℕ))
+      (ends : UpdateEndsWhole (Some files) u trial status put before after)
+      → (t : Trial) × (IsUpdate u.options o t × (ends.outcome ≡ outcome_of_trial u t))
+  made_so status None put before after ends =
+      let one = comes_only files 0 (update_reading u) ends.comes.result ends.comes.comes ∙ read in
+      absurd (subst (λ r. UpdateComes u r ends.outcome None) one ends.comes.is)
+  made_so status (Some t) put before after ends =
+      let one = comes_only files 0 (update_reading u) ends.comes.result ends.comes.comes ∙ read in
+      (t, subst (λ r. UpdateComes u r ends.outcome (Some t)) one ends.comes.is)
+
+  -- so it was done
+  done_so : (status : Status) (trial : Option Trial) (put : Option Files)
+      (before after : Option (List ℕ))
+      → UpdateEndsWhole (Some files) u trial status put before after → status ≡ Done
+  done_so status trial put before after ends =
+      let made = made_so status trial put before after ends in
+      let t = made.0 in
+      let is = made.1.0 in
+      ends.ends
+      ∙ ap (λ (outcome : Outcome). outcome.status) made.1.1
+      ∙ ap status_by (last_done u o t is (fits is.aim is.aims))
+
+  -- and its flash was put
+  installed_so : (trial : Option Trial) (put : Option Files) (before after : Option (List ℕ))
+      → UpdateEndsWhole (Some files) u trial Done put before after
+      → IsInstalled files u o Done put
+  installed_so trial put before after ends =
+      let made = made_so Done trial put before after ends in
+      let t = made.0 in
+      let is = made.1.0 in
+      let done = all_done u o t is (last_done u o t is (fits is.aim is.aims)) in
+      let left : t.flash.items ≡ flash_of u o is.aim = is.leaves done in
+      record {
+        aim = is.aim;
+        aims = is.aims;
+        done = refl;
+        puts = rw (made.1.1, left) at ends.puts;
+        boots = λ upto. rw left at (is.installed upto done);
+      }
+
+pub faultless_installs : FaultlessUpdateInstalls
+faultless_installs files u o Done trial put before after a b c d read fits ends store sink none quiet =
+    inr (installed_so files u o read fits trial put before after ends)
+faultless_installs files u o Usage trial put before after a b c d read fits ends store sink none quiet =
+    absurd ends
+faultless_installs files u o (Refused why) trial put before after a b c d read fits ends store sink none quiet =
+    absurd (let is = done_so files u o read fits (Refused why) trial put before after ends in cc)
+faultless_installs files u o StoreFault trial put before after a b c d read fits ends store sink none quiet =
+    absurd (none (store refl))
+faultless_installs files u o (DeviceFault step) trial put before after a b c d read fits ends store sink none quiet =
+    absurd (let is = done_so files u o read fits (DeviceFault step) trial put before after ends in cc)
+faultless_installs files u o (PowerCut step) trial put before after a b c d read fits ends store sink none quiet =
+    absurd (let is = done_so files u o read fits (PowerCut step) trial put before after ends in cc)
+faultless_installs files u o Memory trial put before after a b c d read fits ends store sink none quiet =
+    inl refl
+faultless_installs files u o SinkFault trial put before after a b c d read fits ends store sink none quiet =
+    absurd (quiet (sink refl))

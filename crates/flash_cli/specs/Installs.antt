@@ -1,0 +1,57 @@
+-- What an update comes to where nothing fails.
+use Rattle.std.specs.Prelude.{◌≡◌, ◌≢◌, ◌⊎◌, ℕ, List, length, Option, Some, Ok}
+use Rattle.std.specs.FinMap.{insert}
+use Rattle.crash_images.specs.Cut.{IsAhead}
+use Rattle.pipe_ends.specs.Fault.{Rose}
+use Rattle.pipe_ends.specs.Store.{Files}
+use Rattle.boot_run.specs.declared.aims.Aim.{Aim}
+use Rattle.power_cut.specs.declared.legs.LegEnd.TheVariants.{Done as DoneEnd}
+use Rattle.power_cut.specs.declared.legs.Upto.TheVariants.{Boot as UptoBoot}
+use Rattle.power_cut.specs.declared.outcome.Trial.{Trial}
+use Rattle.power_cut.specs.Installed.{installed_flash}
+use Rattle.power_cut.specs.Update.{session_end, slot_size}
+use Rattle.power_cut.specs.Whole.{BootsNew}
+use Rattle.duo_run.specs.Worker.{worker_steps}
+use Rattle.flash_cli.specs.declared.status.Status.{Status}
+use Rattle.flash_cli.specs.declared.status.Status.TheVariants.{Done, StoreFault, Memory, SinkFault}
+use Rattle.flash_cli.specs.declared.update_words.Options.{Options}
+use Rattle.flash_cli.specs.Opening.{AimsIn, Opening}
+use Rattle.flash_cli.specs.Reading.{read_in}
+use Rattle.flash_cli.specs.UpdateWords.{Update}
+use Rattle.flash_cli.specs.Updating.{UpdateEnds, count_of, update_reading}
+
+-- the image is whole within the slot that is aimed at, and none of the steps of the update was chosen
+-- to end badly
+pub record IsFitting (options : Options) (o : Opening) (aim : Aim) : Type 0 where
+  pub whole : session_end (slot_size o.layout aim.slot) o.image ≡ DoneEnd
+  pub cut_ahead : IsAhead options.cut (count_of options o aim)
+  pub fail_ahead : IsAhead options.fail (count_of options o aim)
+
+-- the flash of the files and the words
+abbrev pub flash_of : Update → Opening → Aim → List ℕ
+flash_of u o aim =
+    installed_flash o.layout aim o.image (worker_steps o.rows o.script) u.options.upto o.flash
+
+-- an update that began so was carried out: this flash was put, no other file was, and it boots the
+-- new application
+pub record IsInstalled (files : Files) (u : Update) (o : Opening) (status : Status)
+    (put : Option Files) : Type 0 where
+  pub aim : Aim
+  pub aims : AimsIn o.flash o.layout (length o.image) aim
+  pub done : status ≡ Done
+  pub puts : put ≡ Some (insert files u.out (flash_of u o aim))
+  pub boots : u.options.upto ≢ UptoBoot → BootsNew o.layout aim o.image (flash_of u o aim)
+
+-- an update whose files are told and refuse nothing, whose image fits, and in which neither count of
+-- faults rose, was carried out, unless memory ran out
+abbrev pub FaultlessUpdateInstalls : Type 0
+FaultlessUpdateInstalls = (files : Files) (u : Update) (o : Opening) (status : Status)
+    (trial : Option Trial) (put : Option Files) (before after : Option (List ℕ))
+    (stores_before stores_now sinks_before sinks_now : ℕ)
+    → read_in files 0 (update_reading u) ≡ Ok (Ok o)
+    → ((aim : Aim) → AimsIn o.flash o.layout (length o.image) aim → IsFitting u.options o aim)
+    → UpdateEnds (Some files) u status trial put before after
+    → (status ≡ StoreFault → Rose stores_before stores_now)
+    → (status ≡ SinkFault → Rose sinks_before sinks_now)
+    → (Rose stores_before stores_now → ⊥) → (Rose sinks_before sinks_now → ⊥)
+    → (status ≡ Memory) ⊎ IsInstalled files u o status put
