@@ -18,5 +18,9 @@ pub mod OpeningLemmas
 pub mod TrialLemmas
 pub mod TakenLemmas
 pub mod CountLemmas
+pub mod BegunLemmas
+pub mod BrokenLemmas
+pub mod CutLemmas
 pub mod RunLemmas
 pub mod UpdateLaws
+pub mod SweepLaws

@@ -60,7 +60,7 @@ opens_by flash layout aim new laid bytes aims =
     subst (λ image. IsOpening layout flash aim image new) old is
 
 -- a layout by the table of a flash is that of the flash
-table_lays : (flash : List ℕ) (rows : List Row) (layout : Places) → HasTable rows layout flash
+pub table_lays : (flash : List ℕ) (rows : List Row) (layout : Places) → HasTable rows layout flash
     → layout_in flash ≡ Ok layout
 unfolding layout_in
 table_lays flash rows layout has = rw has.table has.layout_is

@@ -5,6 +5,7 @@ pub mod Laid
 pub mod Opening
 pub mod Legs
 pub mod StepCount
+pub mod CutFlash
 pub mod Choice
 pub mod Text
 pub mod Answer
@@ -25,3 +26,4 @@ pub mod Updating
 pub mod Served
 pub mod Laws
 pub mod UpdateLaws
+pub mod SweepLaws
