@@ -18,8 +18,12 @@ pub mod OpeningLemmas
 pub mod TrialLemmas
 pub mod TakenLemmas
 pub mod CountLemmas
+pub mod BegunLemmas
+pub mod BrokenLemmas
+pub mod CutLemmas
 pub mod RunLemmas
 pub mod UpdateLaws
 pub mod SweepLemmas
 pub mod SweptLemmas
+pub mod SweepLaws
 pub mod InstallLaws

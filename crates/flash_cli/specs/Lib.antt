@@ -6,6 +6,7 @@ pub mod Laid
 pub mod Opening
 pub mod Legs
 pub mod StepCount
+pub mod CutFlash
 pub mod Choice
 pub mod Text
 pub mod Answer
@@ -27,4 +28,5 @@ pub mod Sweeping
 pub mod Served
 pub mod Laws
 pub mod UpdateLaws
+pub mod SweepLaws
 pub mod Installs

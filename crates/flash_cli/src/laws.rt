@@ -1,6 +1,7 @@
 //! What follows from the clauses of the top call, over every call.
 
 ghost use Rattle.flash_cli.specs.Laws.{UsageIsOfNoCommand, NoCommandIsUsage, ToldFilesDetermine, RefusedPutsNothing, FaultlessIsWork, MadeIsWhole, MadeIsFactoryFlash};
+ghost use Rattle.flash_cli.specs.SweepLaws.{CutUpdatesAreByFiles, SilentSweepsAreByFiles, SilentSweepsAreTheSame};
 ghost use Rattle.flash_cli.specs.UpdateLaws.{CutIsReached, ElseByImage, FailureIsReached};
 ghost use Rattle.flash_cli.specs.Installs.{FaultlessUpdateInstalls};
 
@@ -60,3 +61,15 @@ pub(crate) fn updates_end_in_their_chosen_step()
 pub(crate) fn an_update_without_a_fault_installs_its_image()
     ensures installed { FaultlessUpdateInstalls }
 {}
+
+/// Where the script makes no step, the flash that a cut leaves is a function of the files, the tear
+/// number and the chosen step: that of the update's steps in one list, of which those before the
+/// chosen one are made and this one is torn. So are the lines of a sweep: two sweeps of one flash and
+/// one image by one tear number have one text.
+pub(crate) fn cuts_beside_silent_scripts_are_functions()
+    ensures flash { CutUpdatesAreByFiles }
+    ensures lines { SilentSweepsAreByFiles }
+    ensures text { SilentSweepsAreTheSame }
+{
+    whole_images_show_no_fault();
+}

@@ -1,0 +1,396 @@
+-- The lines of a sweep whose script makes no step.
+use Rattle.std.proofs.Common.{◌≡◌, inl, inr, ◌≤◌, ◌<◌, Bool, true, false, ℕ, suc, ◌+◌, ◌^◌, List, [], ◌∷◌, ◌++◌, length, length-append, Option, Some, None, Ok, refl, sym, ap, ◌∙◌, subst, arith}
+use Rattle.std.specs.Prelude.{◌&&◌, if◌then◌else◌, slice_get}
+use Rattle.std.specs.Borrow.{Bor}
+use Rattle.nor_device.specs.declared.step.Step.{Step}
+use Rattle.nor_device.specs.Flash.{after_steps}
+use Rattle.nor_device.specs.Ram.{Ram}
+use Rattle.crash_images.specs.Cut.{CutDevice, IsAhead, NotBoth}
+use Rattle.partition_table.specs.declared.app.App.{App}
+use Rattle.partition_table.specs.Layout.{Places, layout_in}
+use Rattle.otadata.specs.declared.next.NextEntry.{NextEntry}
+use Rattle.boot_select.specs.Boots.{entries_in}
+use Rattle.boot_select.specs.Target.{target_of}
+use Rattle.rollback.specs.declared.rewrite.Rewrite.{Rewrite}
+use Rattle.rollback.specs.Boots.{boots_in}
+use Rattle.rollback.specs.Rewrite.{restated}
+use Rattle.image_verify.specs.Held.{held}
+use Rattle.boot_run.specs.declared.aims.Aim.{Aim}
+use Rattle.boot_run.specs.declared.booted.Booted.{Booted}
+use Rattle.boot_run.specs.Aim.{aim_at}
+use Rattle.boot_run.specs.Rewriting.{rewrite}
+use Rattle.boot_run.specs.Verified.{Starts}
+use Rattle.flash_steps.specs.Parts.{open_addresses}
+use Rattle.update_steps.specs.Driver.{driver_steps, next_rewrite, steps_to}
+use Rattle.update_steps.proofs.SessionLemmas.{ShowsNone}
+use Rattle.power_cut.specs.declared.legs.Leg.{Leg}
+use Rattle.power_cut.specs.declared.legs.LegEnd.{LegEnd}
+use Rattle.power_cut.specs.declared.legs.LegEnd.TheVariants.{Done, Device, Cut, FirstByte, Empty, Bad}
+use Rattle.power_cut.specs.declared.legs.Ran.{Ran}
+use Rattle.power_cut.specs.declared.legs.Upto.TheVariants.{Confirm}
+use Rattle.power_cut.specs.declared.outcome.Trial.{Trial}
+use Rattle.power_cut.specs.declared.swept.Sweep.{Sweep}
+use Rattle.power_cut.specs.Device.{HasEnd}
+use Rattle.power_cut.specs.Sweep.{AreCutFrom, IsUpdateOf}
+use Rattle.power_cut.specs.Update.{Opens, session_end, slot_size}
+use Rattle.power_cut.specs.Whole.{AreDone, BehindSession, IsTrial, boot_steps, is_done, total_steps, wants_boot}
+use Rattle.power_cut.specs.Whole as power
+use Rattle.duo_run.specs.Both.{HasTable}
+use Rattle.duo_run.specs.Worker.{worker_steps}
+use Rattle.duo_run.proofs.FewStepsLemmas.{update_few}
+use Rattle.duo_run.proofs.OpeningLemmas.{aimed_opens, table_lays}
+use Rattle.flash_text.specs.BootText.{steps_line}
+use Rattle.flash_text.specs.SweepText.{cut_line, cut_lines, sweep_text}
+use Rattle.flash_cli.specs.CutFlash.{cut_flash, cut_in, update_steps}
+use Rattle.flash_cli.specs.Legs.{Confirms, Writes}
+use Rattle.flash_cli.specs.declared.status.Status.TheVariants.{PowerCut}
+use Rattle.flash_cli.specs.Opening.{AimsIn, Opening}
+use Rattle.flash_cli.specs.StepCount.{IsCounted, update_count}
+use Rattle.flash_cli.specs.SweepLaws.{AreBootsFrom, CutUpdatesAreByFiles, IsByFiles, IsSilent, SilentSweepsAreByFiles, SilentSweepsAreTheSame, SweepOf, cut_boots}
+use Rattle.flash_cli.specs.Updating.{last_end, status_by, steps_in}
+use Rattle.flash_cli.proofs.CountLemmas.{trial_counts}
+use Rattle.flash_cli.proofs.CutLemmas.{trial_cut}
+use Rattle.flash_cli.proofs.EndLemmas.{Chooses, done_is, second_true}
+use Rattle.flash_cli.proofs.TakenLemmas.{apart, taken_trial, theirs}
+use Rattle.flash_cli.proofs.UpdateLaws.{cut_reached}
+
+-- the steps of legs, in the words of both crates
+same_total : (legs : List Leg) → steps_in legs ≡ total_steps legs
+same_total [] = refl
+same_total (leg ∷ legs) = ap (λ n. leg.steps + n) (same_total legs)
+
+-- the session of an update that was made whole was made whole
+session_done : (confirms : CutDevice Ram → Bor Booted → Bor Rewrite → Ran → Type 0)
+    (layout : Places) (flash : List ℕ) (leg : Leg) (dev : CutDevice Ram) (t : Trial) (goes : Bool)
+    → (wants_boot Confirm && is_done leg.end) ≡ goes
+    → BehindSession confirms layout flash goes Confirm leg dev t → AreDone t.legs.items
+    → leg.end ≡ Done
+session_done confirms layout flash leg dev t false halts ends done =
+    (subst AreDone ends.legs_are done).0
+session_done confirms layout flash leg dev t true goes ends done =
+    done_is leg.end (second_true (wants_boot Confirm) (is_done leg.end) goes)
+
+-- an update ends with a cut in step k where the power is to go off there, and it does not end behind
+-- fewer steps
+ends_cut : (dev : CutDevice Ram) (now k : ℕ) (end : LegEnd) → dev.cut ≡ Some k → dev.fail ≡ None
+    → (IsAhead dev.cut now → ⊥) → HasEnd dev now end end → end ≡ Cut k
+ends_cut dev now k Done cut fail never has = absurd (never has.0.cut_ahead)
+ends_cut dev now k Empty cut fail never has = absurd (never has.0.cut_ahead)
+ends_cut dev now k (FirstByte byte) cut fail never has = absurd (never has.0.cut_ahead)
+ends_cut dev now k (Bad why) cut fail never has = absurd (never has.0.cut_ahead)
+ends_cut dev now k (Cut j) cut fail never has =
+    let same : j ≡ k = (let e = has.chosen_is in cc) in ap Cut same
+ends_cut dev now k (Device j) cut fail never has = absurd (let e = has.chosen_is in cc)
+
+module _ (shown : ShowsNone) (o : Opening) (driver tear : ℕ) (aim : Aim) (below : driver < 2)
+    (may : IsSilent o aim) where
+  abbrev work : List Step
+  work = worker_steps o.rows o.script
+
+  laid : layout_in o.flash ≡ Ok o.layout
+  laid = table_lays o.flash o.rows o.layout may.table
+
+  opens : Opens o.layout o.flash aim o.image
+  opens = aimed_opens o.flash o.rows o.layout aim o.image may.table may.bytes may.aims
+
+  abbrev total : ℕ
+  total = length (update_steps o.layout aim o.image o.flash)
+
+  abbrev whole : LegEnd
+  whole = session_end (slot_size o.layout aim.slot) o.image
+
+  -- the steps of an update whose session is made whole
+  count_is : whole ≡ Done → update_count o.layout aim o.image work Confirm o.flash ≡ total
+  count_is done =
+      let driver_list = driver_steps o.layout aim o.image in
+      let boot_list = boot_steps o.layout (after_steps o.flash driver_list) in
+      let confirm_list = rewrite o.layout.otadata
+      (restated 2 aim.next.sector aim.next.entry) in
+      let quiet : update_count o.layout aim o.image work Confirm o.flash
+      ≡ update_count o.layout aim o.image [] Confirm o.flash =
+      ap (λ (w : List Step). update_count o.layout aim o.image w Confirm o.flash) may.silent in
+      let all : update_count o.layout aim o.image [] Confirm o.flash
+      ≡ length driver_list + 0 + (length boot_list + 2) =
+      ap (λ e. length driver_list + 0 + (if is_done e then length boot_list + 2 else 0)) done in
+      let one = length-append driver_list (boot_list ++ confirm_list) in
+      let two = length-append boot_list confirm_list in
+      omega (arith, quiet, all, one, two)
+
+  module _ (cut : Option ℕ) (t : Trial)
+      (u : IsUpdateOf (Writes o driver aim) (Confirms o driver) o.layout o.flash tear cut t) where
+    abbrev first : List ℕ
+    first = u.dev.inner.bytes
+
+    back : first ≡ o.flash
+    back = u.fresh.bytes
+
+    table_here : HasTable o.rows o.layout first
+    table_here = subst (HasTable o.rows o.layout) (sym back) may.table
+
+    laid_here : layout_in first ≡ Ok o.layout
+    laid_here = ap layout_in back ∙ laid
+
+    opens_here : Opens o.layout first aim o.image
+    opens_here = subst (λ (f : List ℕ). Opens o.layout f aim o.image) (sym back) opens
+
+    trial_here : IsTrial (Writes o driver aim u.dev) (Confirms o driver) o.layout first Confirm t
+    trial_here = subst (λ (f : List ℕ).
+        IsTrial (Writes o driver aim u.dev) (Confirms o driver) o.layout f Confirm t) (sym back)
+        u.trial
+
+    chooses : Chooses cut None 0 u.dev
+    chooses = record {
+      cut_is = ap (λ (d : CutDevice Ram). d.cut) u.fresh.same;
+      fail_is = ap (λ (d : CutDevice Ram). d.fail) u.fresh.same;
+      steps_are = ap (λ (d : CutDevice Ram). d.steps) u.fresh.same;
+    }
+
+    short : length (driver_steps o.layout aim o.image) ≤ 2 ^ 40
+    short =
+        let few = update_few o.layout first aim o.image opens_here table_here.size in
+        omega (arith, few)
+
+    counted : IsCounted cut None (steps_in t.legs.items)
+        (update_count o.layout aim o.image work Confirm first)
+    counted = trial_counts shown o.layout aim o.image u.dev opens_here (open_addresses o.rows)
+        (apart o.rows o.script driver o.layout aim o.image u.dev table_here laid_here opens_here)
+        work
+        (theirs o.rows o.script driver o.layout aim o.image u.dev table_here laid_here opens_here)
+        driver below cut None (inr refl) chooses short
+        (let none = ap (λ (w : List Step). length w) may.silent in omega (arith, none)) Confirm t
+        (taken_trial o.rows o.script driver o.layout aim o.image u.dev table_here laid_here
+        opens_here Confirm t trial_here)
+
+    counted_all : whole ≡ Done → IsCounted cut None (total_steps t.legs.items) total
+    counted_all done =
+        subst (λ n. IsCounted cut None n total) (same_total t.legs.items)
+        (subst (IsCounted cut None (steps_in t.legs.items))
+        (ap (λ (f : List ℕ). update_count o.layout aim o.image work Confirm f) back
+        ∙ count_is done) counted)
+
+  -- what a cut in step k leaves
+  cut_leaves : (k : ℕ) (t : Trial)
+      → IsUpdateOf (Writes o driver aim) (Confirms o driver) o.layout o.flash tear (Some k) t
+      → whole ≡ Done → k ≤ total
+      → t.flash.items ≡ cut_flash o.layout aim o.image o.flash tear k
+  cut_leaves k t u done within =
+      trial_cut shown o.rows o.script driver below o.layout aim o.image u.dev
+      (table_here (Some k) t u) (laid_here (Some k) t u) (opens_here (Some k) t u) may.silent k
+      (chooses (Some k) t u) (short (Some k) t u) Confirm t (trial_here (Some k) t u)
+      (ends_cut u.dev (u.dev.steps + total_steps t.legs.items) k (power.last_end Done t.legs.items)
+      (chooses (Some k) t u).cut_is (chooses (Some k) t u).fail_is never u.end)
+      ∙ ap (λ n. cut_flash o.layout aim o.image u.dev.inner.bytes n k)
+      (ap (λ (d : CutDevice Ram). d.tear) u.fresh.same)
+      ∙ ap (λ (f : List ℕ). cut_flash o.layout aim o.image f tear k) u.fresh.bytes
+    where
+      never : IsAhead u.dev.cut (u.dev.steps + total_steps t.legs.items) → ⊥
+      never ahead =
+          let fresh = (chooses (Some k) t u).steps_are in
+          let less : u.dev.steps + total_steps t.legs.items < k =
+          subst (λ (c : Option ℕ). IsAhead c (u.dev.steps + total_steps t.legs.items))
+          (chooses (Some k) t u).cut_is ahead in
+          let all = (counted_all (Some k) t u done).all (omega (arith, less, fresh)) tt in
+          omega (arith, less, fresh, all, within)
+
+  cuts_boot : whole ≡ Done → (k : ℕ) (answers : List Booted)
+      → AreCutFrom (Writes o driver aim) (Confirms o driver) o.layout o.flash tear aim o.image k
+      answers
+      → k + length answers ≤ total + 1 → AreBootsFrom (cut_boots o aim tear) k answers
+  cuts_boot done k [] cuts within = tt
+  cuts_boot done k (booted ∷ more) cuts within = (
+    subst (λ (f : List ℕ). Starts (boots_in held o.layout f) booted.app booted.info)
+        (cut_leaves k cuts.0.t cuts.0.update done (omega (arith, within))) cuts.0.shows,
+    cuts_boot done (suc k) more cuts.1 (omega (arith, within)),
+  )
+
+  by_files_of : (s : Sweep) → SweepOf o driver tear aim s → IsByFiles o aim tear s
+  by_files_of s sweep =
+      let trial = sweep.update.trial in
+      let end = session_done (Confirms o driver) o.layout o.flash trial.session.leg
+      trial.session.dev sweep.whole (wants_boot Confirm && is_done trial.session.leg.end) refl
+      trial.behind sweep.done in
+      let done : whole ≡ Done =
+      (subst (HasEnd sweep.update.dev trial.session.dev.steps whole) end
+      trial.written.leg.ran_is.end).1 in
+      let all = (counted_all None sweep.whole sweep.update done).all tt tt in
+      let steps : s.steps ≡ total = sweep.steps ∙ all in
+      record {
+        steps = steps;
+        places = sweep.places;
+        boots = cuts_boot done 1 s.after.items sweep.cuts
+            (let places = sweep.places in omega (arith, steps, places));
+      }
+
+pub by_files : ShowsNone → SilentSweepsAreByFiles
+by_files shown o driver tear aim s below may sweep =
+    by_files_of shown o driver tear aim below may s sweep
+
+-- ---- one update
+
+-- how the last leg ended, in the words of both crates
+same_end : (legs : List Leg) → power.last_end Done legs ≡ last_end legs
+same_end [] = refl
+same_end (leg ∷ []) = refl
+same_end (leg ∷ next ∷ legs) = same_end (next ∷ legs)
+
+-- a loss of power in step k is the end of a leg
+cut_by_status : (end : LegEnd) (k : ℕ) → status_by end ≡ PowerCut k → end ≡ Cut k
+cut_by_status Done k is = absurd cc
+cut_by_status (Device j) k is = absurd cc
+cut_by_status (Cut j) k is = let same : j ≡ k = cc in ap Cut same
+cut_by_status (FirstByte byte) k is = absurd cc
+cut_by_status Empty k is = absurd cc
+cut_by_status (Bad why) k is = absurd cc
+
+no_failure : (cut fail : Option ℕ) (k : ℕ) → NotBoth cut fail → cut ≡ Some k → fail ≡ None
+no_failure cut fail k (inl none) is = absurd cc
+no_failure cut fail k (inr none) is = none
+
+pub cut_by_files : ShowsNone → CutUpdatesAreByFiles
+cut_by_files shown options o t k sound is may status =
+    let dev = is.device in
+    let chosen : options.cut ≡ Some k = ((cut_reached options o t k sound is).0 status).0 in
+    let back : o.flash ≡ dev.inner.bytes = sym is.fresh.bytes in
+    let table : HasTable o.rows o.layout dev.inner.bytes =
+    subst (HasTable o.rows o.layout) back may.table in
+    let opens : Opens o.layout dev.inner.bytes is.aim o.image =
+    aimed_opens dev.inner.bytes o.rows o.layout is.aim o.image table may.bytes
+    (subst (λ (f : List ℕ). AimsIn f o.layout (length o.image) is.aim) back may.aims) in
+    let few = update_few o.layout dev.inner.bytes is.aim o.image opens table.size in
+    trial_cut shown o.rows o.script options.driver
+    (let driver = sound.driver in omega (arith, driver)) o.layout is.aim o.image dev table
+    (table_lays dev.inner.bytes o.rows o.layout table) opens may.silent k
+    (record {
+      cut_is = is.fresh.cut ∙ chosen;
+      fail_is = is.fresh.fail ∙ no_failure options.cut options.fail k sound.one chosen;
+      steps_are = is.fresh.steps;
+    })
+    (omega (arith, few)) options.upto t
+    (subst (λ (f : List ℕ). IsTrial (Writes o options.driver is.aim dev)
+    (Confirms o options.driver) o.layout f options.upto t) back is.trial)
+    (same_end t.legs.items ∙ cut_by_status (last_end t.legs.items) k status)
+    ∙ ap (λ n. cut_flash o.layout is.aim o.image dev.inner.bytes n k) is.fresh.tear
+    ∙ ap (λ (f : List ℕ). cut_flash o.layout is.aim o.image f options.tear k) is.fresh.bytes
+
+-- ---- two sweeps
+
+pair_of : (p q : App × List ℕ) → Some p ≡ Some q → p ≡ q
+pair_of p q is = cc is
+
+-- a line tells the application and the length of its image alone
+line_same : (k : ℕ) (found : Option (App × List ℕ)) (a b : Booted) → Starts found a.app a.info
+    → Starts found b.app b.info → cut_line k a ≡ cut_line k b
+unfolding cut_line
+line_same k found a b one two =
+    let pair = pair_of (a.app, one.image) (b.app, two.image) (sym one.is ∙ two.is) in
+    let app : a.app ≡ b.app = ap (λ (p : App × List ℕ). p.0) pair in
+    let image : one.image ≡ two.image = ap (λ (p : App × List ℕ). p.1) pair in
+    let long : a.info.length ≡ b.info.length =
+    one.told.long ∙ ap (λ (l : List ℕ). length l) image ∙ sym two.told.long in
+    rw (app, long) refl
+
+lines_same : (a b : ℕ → Option (App × List ℕ)) → ((k : ℕ) → a k ≡ b k) → (k : ℕ)
+    → (xs ys : List Booted) → length xs ≡ length ys → AreBootsFrom a k xs → AreBootsFrom b k ys
+    → cut_lines k xs ≡ cut_lines k ys
+lines_same a b same k [] [] long one two = refl
+lines_same a b same k [] (y ∷ ys) long one two = absurd (omega (arith, long))
+lines_same a b same k (x ∷ xs) [] long one two = absurd (omega (arith, long))
+lines_same a b same k (x ∷ xs) (y ∷ ys) long one two =
+    ap (λ (l : List ℕ). l ++ cut_lines (suc k) xs)
+    (line_same k (a k) x y one.0
+    (subst (λ found. Starts found y.app y.info) (sym (same k)) two.0))
+    ∙ ap (λ (l : List ℕ). cut_line k y ++ l)
+    (lines_same a b same (suc k) xs ys (omega (arith, long)) one.1 two.1)
+
+-- what is aimed at is one slot and one entry
+module _ (flash : List ℕ) (layout : Places) (n : ℕ) (a b : Aim)
+    (one : AimsIn flash layout n a) (two : AimsIn flash layout n b) where
+  running_same : a.running ≡ b.running
+  running_same =
+      let same : Ok a.running ≡ Ok b.running = sym one.runs ∙ two.runs in cc
+
+  slot_same : a.slot ≡ b.slot
+  slot_same =
+      one.slot
+      ∙ ap (target_of layout (entries_in layout flash 0) (entries_in layout flash 1)) running_same
+      ∙ sym two.slot
+
+  next_same : a.next ≡ b.next
+  next_same =
+      let same : Ok a.next ≡ Ok b.next =
+      sym one.next
+      ∙ ap (λ r. aim_at layout (entries_in layout flash 0) (entries_in layout flash 1) r n a.slot)
+      running_same
+      ∙ ap (aim_at layout (entries_in layout flash 0) (entries_in layout flash 1) b.running n)
+      slot_same
+      ∙ two.next in cc
+
+driver_same : (layout : Places) (a b : Aim) (image : List ℕ) → a.slot ≡ b.slot → a.next ≡ b.next
+    → driver_steps layout a image ≡ driver_steps layout b image
+unfolding driver_steps
+driver_same layout a b image slot next =
+    ap (λ n. steps_to layout.otadata (slice_get layout.slots n) (next_rewrite a) image) slot
+    ∙ ap (λ (e : NextEntry). steps_to layout.otadata (slice_get layout.slots b.slot)
+    (record { sector = e.sector; entry = e.entry }) image) next
+
+steps_same : (layout : Places) (a b : Aim) (image flash : List ℕ) → a.slot ≡ b.slot
+    → a.next ≡ b.next → update_steps layout a image flash ≡ update_steps layout b image flash
+steps_same layout a b image flash slot next =
+    ap (λ (l : List Step). l ++ (boot_steps layout (after_steps flash l)
+    ++ rewrite layout.otadata (restated 2 a.next.sector a.next.entry)))
+    (driver_same layout a b image slot next)
+    ∙ ap (λ (e : NextEntry). driver_steps layout b image
+    ++ (boot_steps layout (after_steps flash (driver_steps layout b image))
+    ++ rewrite layout.otadata (restated 2 e.sector e.entry))) next
+
+-- two updates of one flash and one image have one layout and one list of steps
+module _ (a b : Opening) (a_aim b_aim : Aim) (flash : a.flash ≡ b.flash) (image : a.image ≡ b.image)
+    (one : IsSilent a a_aim) (two : IsSilent b b_aim) where
+  layout_same : a.layout ≡ b.layout
+  layout_same =
+      let same : Ok a.layout ≡ Ok b.layout =
+      sym (table_lays a.flash a.rows a.layout one.table) ∙ ap layout_in flash
+      ∙ table_lays b.flash b.rows b.layout two.table in cc
+
+  -- what the second aims at, on the first flash
+  aims_back : AimsIn a.flash a.layout (length a.image) b_aim
+  aims_back =
+      subst (λ (f : List ℕ). AimsIn f a.layout (length a.image) b_aim) (sym flash)
+      (subst (λ (l : Places). AimsIn b.flash l (length a.image) b_aim) (sym layout_same)
+      (subst (λ (i : List ℕ). AimsIn b.flash b.layout (length i) b_aim) (sym image) two.aims))
+
+  list_same : update_steps a.layout a_aim a.image a.flash
+      ≡ update_steps b.layout b_aim b.image b.flash
+  list_same =
+      steps_same a.layout a_aim b_aim a.image a.flash
+      (slot_same a.flash a.layout (length a.image) a_aim b_aim one.aims aims_back)
+      (next_same a.flash a.layout (length a.image) a_aim b_aim one.aims aims_back)
+      ∙ ap (λ (l : Places). update_steps l b_aim a.image a.flash) layout_same
+      ∙ ap (λ (i : List ℕ). update_steps b.layout b_aim i a.flash) image
+      ∙ ap (update_steps b.layout b_aim b.image) flash
+
+  boots_same : (tear k : ℕ) → cut_boots a a_aim tear k ≡ cut_boots b b_aim tear k
+  boots_same tear k =
+      ap (λ (l : Places). boots_in held l (cut_flash a.layout a_aim a.image a.flash tear k))
+      layout_same
+      ∙ ap (λ (f : List ℕ). boots_in held b.layout
+      (cut_in f (update_steps a.layout a_aim a.image a.flash) k tear)) flash
+      ∙ ap (λ (l : List Step). boots_in held b.layout (cut_in b.flash l k tear)) list_same
+
+pub are_the_same : ShowsNone → SilentSweepsAreTheSame
+unfolding sweep_text
+are_the_same shown a b a_driver b_driver tear a_aim b_aim s t flash image a_below b_below one two
+    s_is t_is =
+    let first = by_files shown a a_driver tear a_aim s a_below one s_is in
+    let second = by_files shown b b_driver tear b_aim t b_below two t_is in
+    let steps : s.steps ≡ t.steps =
+    first.steps
+    ∙ ap (λ (l : List Step). length l) (list_same a b a_aim b_aim flash image one two)
+    ∙ sym second.steps in
+    let long : length s.after.items ≡ length t.after.items =
+    first.places ∙ steps ∙ sym second.places in
+    ap (λ n. steps_line n ++ cut_lines 1 s.after.items) steps
+    ∙ ap (λ (l : List ℕ). steps_line t.steps ++ l)
+    (lines_same (cut_boots a a_aim tear) (cut_boots b b_aim tear)
+    (boots_same a b a_aim b_aim flash image one two tear) 1 s.after.items t.after.items long
+    first.boots second.boots)
