@@ -55,13 +55,13 @@ no_slot layout aim image none =
 
 task_small : (layout : Places) (task : Task) → IsTask layout task
     → length (steps_for layout (purpose_of task)) + 1 < 2 ^ 32
-task_small layout (tasks.Install aim image sound) is = few_steps layout aim.now image.now is.0
+task_small layout (tasks.Install aim image) is = few_steps layout aim.now image.now is
 task_small layout (tasks.Confirm rewrite) is = omega arith
 
 -- ---- a test of the step with a number
 
-module _ (layout : Places) (task : Task) (aim : Bor Aim) (image : Bor (List ℕ)) (sound : Bool)
-    (is : task ≡ tasks.Install aim image sound) (number : ℕ) (step : Step) (test : Bool) where
+module _ (layout : Places) (task : Task) (aim : Bor Aim) (image : Bor (List ℕ))
+    (is : task ≡ tasks.Install aim image) (number : ℕ) (step : Step) (test : Bool) where
   -- in the partition of the slot
   pub install_test : (otadata : ℕ) (row : Row) → layout.otadata ≡ otadata
       → slice_get layout.slots aim.now.slot ≡ Some row

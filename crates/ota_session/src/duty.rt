@@ -5,7 +5,7 @@ ghost use Rattle.std.specs.Prelude.{◌≡◌, ◌↔◌, ◌<◌, IsOk, IsTrue,
 ghost use Rattle.partition_table.specs.Layout.{Places, layout_of};
 ghost use Rattle.ota_session.specs.Course.{Confirm, Install, IsNext, course_from};
 
-use crate::next::{is_open, is_sound};
+use crate::next::is_open;
 use crate::part::UpdatePart;
 use crate::task::{Task, is_step};
 use boot_run::Aim;
@@ -58,12 +58,11 @@ impl<'a> UpdateDuty<'a> {
         };
         // No image is longer than a number of 32 bits tells.
         let _length = aim.length;
-        let sound = is_sound(&layout, aim.slot, image);
         UpdateDuty {
             driver,
             table,
             layout,
-            task: Task::Install { aim, image, sound },
+            task: Task::Install { aim, image },
             done: 0,
         }
     }

@@ -8,7 +8,6 @@ ghost use Rattle.boot_run.specs.Rewriting.{rewrite};
 ghost use Rattle.flash_steps.specs.Parts.{LiesInOpenPart, LiesInPart};
 ghost use Rattle.flash_steps.specs.Steps.{pages_in, room_at, write_steps};
 ghost use Rattle.update_steps.specs.Driver.{image_steps, next_rewrite};
-ghost use Rattle.ota_session.specs.DutyView.{KnowsSound};
 ghost use Rattle.ota_session.specs.Numbers.{IsMarked, page_from};
 
 use boot_run::Aim;
@@ -118,18 +117,17 @@ fn is_page_step(at: u32, bytes: &[u8], number: u32, step: &Step) -> bool
     is_program(step, from, page)
 }
 
-/// Whether a step has this number in an update by an image, in the partition of its slot.
+/// Whether a step has this number in an update by an image, in the partition of its slot. The image
+/// is looked at for faults where the step comes behind its own steps alone.
 pub(crate) fn is_image_step(
     otadata: u32,
     row: &Row,
     aim: &Aim,
     image: &[u8],
-    sound: bool,
     number: u32,
     step: &Step,
 ) -> bool
     requires small { length image.now < 2 ^ 32 }
-    requires sound { IsTrue sound ↔ (bad row.now.size image.now ≡ None) }
     ensures exact { IsTrue result
         ↔ (slice_get (image_steps otadata row.now (next_rewrite aim.now) image.now) number
         ≡ Some step.now) }
@@ -146,7 +144,7 @@ pub(crate) fn is_image_step(
     if later < programs {
         return is_page_step(row.offset, image, later, step);
     }
-    if !sound {
+    if !is_whole(image, row.size) {
         return false;
     }
     is_entry_step(otadata, &next_rewrite(aim), later - programs, step)
@@ -169,16 +167,6 @@ fn next_rewrite(aim: &Aim) -> Rewrite
     Rewrite {
         sector: aim.next.sector,
         entry: aim.next.entry,
-    }
-}
-
-/// Whether an image shows no fault within its slot; true where there is no such slot.
-pub(crate) fn is_sound(layout: &Layout, slot: u8, image: &[u8]) -> bool
-    ensures exact { KnowsSound (slice_get layout.now.slots slot) image.now result }
-{
-    match row_of(layout, slot) {
-        Some(row) => is_whole(image, row.size),
-        None => true,
     }
 }
 

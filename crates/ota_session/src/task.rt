@@ -14,16 +14,9 @@ use rollback::Rewrite;
 #[derive(Drop)]
 pub(crate) enum Task<'a> {
     /// An image is installed.
-    Install {
-        aim: &'a Aim,
-        image: &'a [u8],
-        /// Whether the image shows no fault within its slot.
-        sound: bool,
-    },
+    Install { aim: &'a Aim, image: &'a [u8] },
     /// The application that runs is confirmed.
-    Confirm {
-        rewrite: &'a Rewrite,
-    },
+    Confirm { rewrite: &'a Rewrite },
 }
 
 /// Whether a step has this number among the steps of a task.
@@ -33,8 +26,8 @@ pub(crate) fn is_step(task: &Task<'_>, layout: &Layout, number: u32, step: &Step
         ↔ (slice_get (steps_for layout.now (purpose_of task.now)) number ≡ Some step.now) }
 {
     match task {
-        Task::Install { aim, image, sound } => match row_of(layout, aim.slot) {
-            Some(row) => is_image_step(layout.otadata, &row, aim, image, *sound, number, step),
+        Task::Install { aim, image } => match row_of(layout, aim.slot) {
+            Some(row) => is_image_step(layout.otadata, &row, aim, image, number, step),
             None => false,
         },
         Task::Confirm { rewrite } => is_entry_step(layout.otadata, rewrite, number, step),

@@ -36,14 +36,14 @@ returns-then-later-programs c = record {
 }
 
 -- behind the programs of bytes that show a fault
-pub returns-then-not-sound : goal.returns-then-not-sound
-returns-then-not-sound c = record {
+pub returns-then-not-is_whole : goal.returns-then-not-is_whole
+returns-then-not-is_whole c = record {
   exact = faulty_test c.args.otadata c.args.row.now (next_rewrite c.args.aim.now) c.args.image.now
-      c.args.number c.sectors_of-erases.result c.args.step.now c.args.sound
+      c.args.number c.sectors_of-erases.result c.args.step.now c.is_whole.result
       c.sectors_of-erases.ensures.exact c.pages_of-programs.result
       c.pages_of-programs.ensures.exact c.if-number-erases.false
       (c.is_marked.ensures.exact.0 c.if-not-is_marked.false) c.if-later-programs.false
-      (λ none. false≢true (sym c.if-not-sound.true ∙ c.requires.sound.1 none));
+      (λ none. false≢true (sym c.if-not-is_whole.true ∙ c.is_whole.ensures.exact.1 none));
 }
 
 -- a step of the entry
@@ -54,7 +54,7 @@ returns c = record {
       c.sectors_of-erases.ensures.exact c.pages_of-programs.result
       c.pages_of-programs.ensures.exact c.if-number-erases.false
       (c.is_marked.ensures.exact.0 c.if-not-is_marked.false) c.if-later-programs.false
-      (c.requires.sound.0 c.if-not-sound.false)
+      (c.is_whole.ensures.exact.0 c.if-not-is_whole.false)
       (subst (λ (write : Rewrite). IsTrue c.is_entry_step.result
       ↔ (slice_get (rewrite c.args.otadata write)
       (c.args.number - c.sectors_of-erases.result - c.pages_of-programs.result)

@@ -8,7 +8,7 @@ pub returns-in-Some : goal.returns-in-Some
 returns-in-Some c =
     let t = c.in-Install in
     record {
-      exact = install_test c.args.layout.now c.args.task.now t.aim t.image t.sound t.is
+      exact = install_test c.args.layout.now c.args.task.now t.aim t.image t.is
           c.args.number c.args.step.now c.is_image_step.result c.layout.inside.otadata c.in-Some.row
           (ap (λ (l : Places). l.otadata) (sym c.layout.view_is))
           (sym c.row_of.ensures.exact ∙ c.in-Some.is) c.is_image_step.ensures.exact;
@@ -19,6 +19,6 @@ pub returns-in-None : goal.returns-in-None
 returns-in-None c =
     let t = c.in-Install in
     record {
-      exact = nowhere_test c.args.layout.now c.args.task.now t.aim t.image t.sound t.is
+      exact = nowhere_test c.args.layout.now c.args.task.now t.aim t.image t.is
           c.args.number c.args.step.now false (sym c.row_of.ensures.exact ∙ c.in-None.is);
     }
