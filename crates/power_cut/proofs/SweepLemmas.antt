@@ -47,7 +47,7 @@ fresh_ready flash cut tear dev fresh = record {
 
 -- a device that is made over these bytes is fresh
 pub fresh_made : (flash : List ℕ) (cut : Option ℕ) (tear : ℕ) (ram : Ram) (dev : CutDevice Ram)
-    → dev ≡ cut_device ram cut tear None 0 0 Sound → ram.bytes ≡ flash → ram.polls ≡ 2
+    → dev ≡ cut_device ram cut tear None 0 0 Sound → ram.bytes ≡ flash → ram.polls ≡ 0
     → ram.running ≡ None → ram.steps ≡ 0 → IsAhead cut 0 → IsFresh flash cut tear dev
 fresh_made flash cut tear ram dev is bytes polls idle steps ahead =
     subst (IsFresh flash cut tear) (sym is) (record {

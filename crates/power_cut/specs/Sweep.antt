@@ -24,11 +24,11 @@ use Rattle.power_cut.specs.Update.{BootsEither, session_end, slot_size}
 use Rattle.power_cut.specs.Kept.{KeepsConfirm, KeepsSession, MayConfirm}
 use Rattle.power_cut.specs.Whole.{AreDone, BootsNew, EndsAsChosen, IsTrial, is_done, total_steps}
 
--- a device over these bytes on which no step was made: each step is polled twice before it ends,
--- and the power goes off in the step of this number, where one is given, by this tear number
+-- a device over these bytes on which no step was made: each step ends at its first poll, and the
+-- power goes off in the step of this number, where one is given, by this tear number
 pub record IsFresh (flash : List ℕ) (cut : Option ℕ) (tear : ℕ) (dev : CutDevice Ram) : Type 0 where
   pub bytes : dev.inner.bytes ≡ flash
-  pub polls : dev.inner.polls ≡ 2
+  pub polls : dev.inner.polls ≡ 0
   pub idle : dev.inner.running ≡ None
   pub none_made : dev.inner.steps ≡ 0
   pub ahead : IsAhead cut 0

@@ -178,7 +178,7 @@ impl<U: Runner> Updates<'_, U> {
     {
         let mut bytes = room;
         bytes.copy_from_slice(self.flash);
-        let dev = CutNor::new(RamNor::of_bytes(bytes, 2), cut, self.tear, None);
+        let dev = CutNor::new(RamNor::of_bytes(bytes, 0), cut, self.tear, None);
         trial(
             dev,
             self.layout,
