@@ -15,6 +15,7 @@ pub mod ReadableLemmas
 pub mod EndLemmas
 pub mod ServedLemmas
 pub mod OpeningLemmas
+pub mod OpenedLemmas
 pub mod TrialLemmas
 pub mod TakenLemmas
 pub mod CountLemmas
@@ -23,4 +24,4 @@ pub mod BrokenLemmas
 pub mod CutLemmas
 pub mod RunLemmas
 pub mod UpdateLaws
-pub mod SweepLaws
+pub mod CutLaws

@@ -15,7 +15,8 @@ abbrev pub torn_by_first : List ℕ → List Step → ℕ → List ℕ
 torn_by_first flash [] tear = flash
 torn_by_first flash (step ∷ steps) tear = torn_by flash step tear
 
--- the steps before the k-th one are made, and this one is torn; the first step is step 1
+-- the steps before the k-th one are made, and this one is torn; the first step is step 1, and of
+-- fewer steps all are made
 abbrev pub cut_in : List ℕ → List Step → ℕ → ℕ → List ℕ
 cut_in flash steps k tear =
     torn_by_first (after_steps flash (take (k - 1) steps)) (drop (k - 1) steps) tear

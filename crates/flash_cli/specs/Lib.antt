@@ -26,4 +26,4 @@ pub mod Updating
 pub mod Served
 pub mod Laws
 pub mod UpdateLaws
-pub mod SweepLaws
+pub mod CutLaws
