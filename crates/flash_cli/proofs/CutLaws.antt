@@ -40,7 +40,7 @@ use Rattle.duo_run.specs.Worker.{worker_steps}
 use Rattle.duo_run.proofs.FewStepsLemmas.{update_few}
 use Rattle.flash_text.specs.BootText.{steps_line}
 use Rattle.flash_text.specs.SweepText.{cut_line, cut_lines, sweep_text}
-use Rattle.flash_cli.specs.CutFlash.{cut_flash, cut_in, update_steps}
+use Rattle.flash_cli.specs.CutFlash.{all_steps, cut_flash, cut_in}
 use Rattle.flash_cli.specs.Legs.{Confirms, Writes}
 use Rattle.flash_cli.specs.declared.status.Status.TheVariants.{PowerCut}
 use Rattle.flash_cli.specs.Opening.{AimsIn, Opening}
@@ -115,7 +115,7 @@ module _ (shown : ShowsNone) (o : Opening) (driver tear : ℕ) (aim : Aim) (belo
   opens = opens_by o.flash o.layout aim o.image laid may.bytes may.aims
 
   abbrev total : ℕ
-  total = length (update_steps o.layout aim o.image o.flash)
+  total = length (all_steps o.layout aim o.image o.flash)
 
   abbrev whole : LegEnd
   whole = session_end (slot_size o.layout aim.slot) o.image
@@ -370,7 +370,7 @@ driver_same layout a b image slot next =
 
 -- and one of all steps
 steps_same : (layout : Places) (a b : Aim) (image flash : List ℕ) → a.slot ≡ b.slot
-    → a.next ≡ b.next → update_steps layout a image flash ≡ update_steps layout b image flash
+    → a.next ≡ b.next → all_steps layout a image flash ≡ all_steps layout b image flash
 steps_same layout a b image flash slot next =
     ap (λ (l : List Step). l ++ (boot_steps layout (after_steps flash l)
     ++ rewrite layout.otadata (restated 2 a.next.sector a.next.entry)))
@@ -397,12 +397,12 @@ module _ (flash image a_text b_text : List ℕ) (a b : Opening) (a_aim b_aim : A
   aims_back : AimsIn flash a.layout (length image) b_aim
   aims_back = subst (λ (l : Places). AimsIn flash l (length image) b_aim) (sym layout_same) two.aims
 
-  list_same : update_steps a.layout a_aim image flash ≡ update_steps b.layout b_aim image flash
+  list_same : all_steps a.layout a_aim image flash ≡ all_steps b.layout b_aim image flash
   list_same =
       steps_same a.layout a_aim b_aim image flash
       (slot_same flash a.layout (length image) a_aim b_aim one.aims aims_back)
       (next_same flash a.layout (length image) a_aim b_aim one.aims aims_back)
-      ∙ ap (λ (l : Places). update_steps l b_aim image flash) layout_same
+      ∙ ap (λ (l : Places). all_steps l b_aim image flash) layout_same
 
   boots_same : (tear k : ℕ) → cut_boots a.layout a_aim image flash tear k
       ≡ cut_boots b.layout b_aim image flash tear k

@@ -57,7 +57,7 @@ use Rattle.duo_run.specs.Pages.{probe_in}
 use Rattle.duo_run.specs.Worker.{WorkerShare, worker_steps}
 use Rattle.duo_run.proofs.TakenLegs.{AnyMap, session_taken}
 use Rattle.duo_run.proofs.TakenLemmas.{HasTaken, taken_few, worker_taken}
-use Rattle.flash_cli.specs.CutFlash.{cut_flash, cut_in, torn_by_first, update_steps}
+use Rattle.flash_cli.specs.CutFlash.{all_steps, cut_flash, cut_in, torn_by_first}
 use Rattle.flash_cli.proofs.BegunLemmas.{BeginsSteps, begun_in, moved_begun, none_begun}
 use Rattle.flash_cli.proofs.BrokenLemmas.{AreAllMade, IsTornIn, leg_made, leg_torn}
 use Rattle.flash_cli.proofs.EndLemmas.{Chooses, Leads, again, done_is, leads, second_true}
@@ -395,7 +395,7 @@ module _ (shown : ShowsNone) (rows : List Row) (script : List Action) (driver : 
               omega (arith, number, counted, same, both)
 
           joined : (session_list ++ boot_list) ++ (confirm_list ++ [])
-              ≡ update_steps layout aim image first
+              ≡ all_steps layout aim image first
           joined =
               append_assoc session_list boot_list (confirm_list ++ [])
               ∙ ap (λ (l : List Step). session_list ++ (boot_list ++ l))

@@ -15,7 +15,7 @@ use Rattle.duo_run.specs.Worker.{worker_steps}
 use Rattle.flash_text.specs.SweepText.{sweep_text}
 use Rattle.flash_cli.specs.declared.status.Status.TheVariants.{PowerCut}
 use Rattle.flash_cli.specs.declared.update_words.Options.{Options}
-use Rattle.flash_cli.specs.CutFlash.{cut_flash, update_steps}
+use Rattle.flash_cli.specs.CutFlash.{all_steps, cut_flash}
 use Rattle.flash_cli.specs.Legs.{Confirms, Writes}
 use Rattle.flash_cli.specs.Opening.{AimsIn, AreOptions, Opening, opening_of}
 use Rattle.flash_cli.specs.Updating.{IsUpdate, last_end, status_by}
@@ -54,7 +54,7 @@ cut_boots layout aim image flash tear k =
 -- of this list whose k-th step is torn
 pub record IsByFiles (layout : Places) (aim : Aim) (image flash : List ℕ) (tear : ℕ) (s : Sweep)
     : Type 0 where
-  pub steps : s.steps ≡ length (update_steps layout aim image flash)
+  pub steps : s.steps ≡ length (all_steps layout aim image flash)
   pub places : length s.after.items ≡ s.steps
   pub boots : AreBootsFrom (cut_boots layout aim image flash tear) 1 s.after.items
 
