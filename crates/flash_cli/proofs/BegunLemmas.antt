@@ -46,6 +46,7 @@ begins_first steps (Err why) share begun = begun
 
 -- ---- moves
 
+-- moves that were all made begin all their steps
 follows_begun : (k : ℕ) (regs : Regs) (ms : List Move) (items : List Did)
     → Follows k regs ms items → begun_in items ≡ steps_of ms
 follows_begun k regs [] items f = ap begun_in f
@@ -60,6 +61,7 @@ first_by : (steps : List Step) (items same : List Did) → items ≡ same → Be
 first_by steps items same is first =
     (first.0, first.1 ∙ sym (ap (λ (l : List Did). begun_in l ++ first.0) is))
 
+-- of moves that stopped, the first steps were begun
 stops_begun : (k : ℕ) (regs : Regs) (why : NorFault) (ms : List Move) (items : List Did)
     → Stops k regs why ms items → BeginsFirst (steps_of ms) items
 stops_begun k regs why [] items s = absurd s

@@ -57,7 +57,7 @@ use Rattle.duo_run.specs.Pages.{probe_in}
 use Rattle.duo_run.specs.Worker.{WorkerShare, worker_steps}
 use Rattle.duo_run.proofs.TakenLegs.{AnyMap, session_taken}
 use Rattle.duo_run.proofs.TakenLemmas.{HasTaken, taken_few, worker_taken}
-use Rattle.flash_cli.specs.CutFlash.{cut_flash, cut_in, torn_by_first, update_steps}
+use Rattle.flash_cli.specs.CutFlash.{all_steps, cut_flash, cut_in, torn_by_first}
 use Rattle.flash_cli.proofs.BegunLemmas.{BeginsSteps, begun_in, moved_begun, none_begun}
 use Rattle.flash_cli.proofs.BrokenLemmas.{AreAllMade, IsTornIn, leg_made, leg_torn}
 use Rattle.flash_cli.proofs.EndLemmas.{Chooses, Leads, again, done_is, leads, second_true}
@@ -101,6 +101,7 @@ cut_behind flash front part back k tear left torn =
 
 -- ---- a boot
 
+-- the number of steps once these were begun, as long as the count can show them
 count_is : (n : ℕ) (steps : List Step) → n + length steps ≤ 2 ^ 64 - 1
     → count_after n steps ≡ n + length steps
 count_is n [] small = omega arith
@@ -119,6 +120,7 @@ module _ (layout : Places) (old new : CutDevice Ram) (leg : Leg)
   Made answer = AreMadeBy MayEnd MayTear MayRefuse MustRefuse (setting_of old) steps old.steps
       new.steps (Some old.inner.bytes) (Some new.inner.bytes) answer
 
+  -- where it is done, all its steps are made
   pub boot_made : leg.end ≡ Done
       → AreAllMade old.inner.bytes steps old.steps new.steps new.inner.bytes
   boot_made end = at boot.answer boot.made (sym end ∙ boot.end)
@@ -141,6 +143,7 @@ module _ (layout : Places) (old new : CutDevice Ram) (leg : Leg)
       still_ahead (one_more n) made each.1
       (by_choice (setting_of old) (one_more n) ends.Done each.0.ended).0
 
+  -- where the power went off in it, the chosen one is torn
   pub boot_torn : (k : ℕ) → leg.end ≡ Cut k
       → IsTornIn old.inner.bytes steps old.tear old.steps new.steps new.inner.bytes
   boot_torn k end = at boot.answer boot.made (sym end ∙ boot.end)
@@ -192,7 +195,8 @@ module _ (layout : Places) (old new : CutDevice Ram) (leg : Leg)
             left_is = tears (after_steps old.inner.bytes made) step stop.left;
           }
 
-      at : (answer : Result (Option Booted) NorFault) → Made answer → Cut k ≡ end_by new.steps answer
+      at : (answer : Result (Option Booted) NorFault) → Made answer
+          → Cut k ≡ end_by new.steps answer
           → IsTornIn old.inner.bytes steps old.tear old.steps new.steps new.inner.bytes
       at (Ok booted) made is = absurd cc
       at (Err Failed) made is = absurd cc
@@ -283,8 +287,7 @@ module _ (shown : ShowsNone) (rows : List Row) (script : List Action) (driver : 
       mid =
           let number : 0 + ran.leg.steps ≡ ran.leg.steps = omega arith in
           again (Some k) None ran.leg.steps whole ran.dev ran.leg.end
-          (subst (λ n. Leads (Some k) None n whole ran.dev
-          ran.leg.end) number
+          (subst (λ n. Leads (Some k) None n whole ran.dev ran.leg.end) number
           (leads (Some k) None 0 old ran.dev whole ran.leg one chooses is.leg.ran_is)) done
 
       tear_is : ran.dev.tear ≡ old.tear
@@ -353,8 +356,8 @@ module _ (shown : ShowsNone) (rows : List Row) (script : List Action) (driver : 
               (theirs rows script driver layout aim image old has laid opens) driver below
               dev at.now write.now waits may
 
-          abbrev their_mine : List Did
-          their_mine = share_of driver con.leg.leg.left con.leg.leg.right
+          abbrev confirm_mine : List Did
+          confirm_mine = share_of driver con.leg.leg.left con.leg.leg.right
 
           entry_long : length (entry_bytes write.now.entry) ≡ 32
           entry_long =
@@ -363,10 +366,11 @@ module _ (shown : ShowsNone) (rows : List Row) (script : List Action) (driver : 
               let same = ap (λ (w : Rewrite). length w.entry.label) write_is in
               omega (arith, label, bytes, same)
 
-          confirm_drove : BeginsSteps (rewrite layout.otadata write.now) con.leg.leg.drove their_mine
+          confirm_drove : BeginsSteps (rewrite layout.otadata write.now) con.leg.leg.drove
+              confirm_mine
           confirm_drove = moved_begun 0 reset
               (confirm_moves layout write.now (probe_in at.now.info.segments.items))
-              (rewrite layout.otadata write.now) con.leg.leg.drove their_mine
+              (rewrite layout.otadata write.now) con.leg.leg.drove confirm_mine
               (steps_of_entry (probe_in at.now.info.segments.items) layout.otadata write.now
               opens.placed.aligned entry_long) con.leg.leg.driver_share
 
@@ -391,7 +395,7 @@ module _ (shown : ShowsNone) (rows : List Row) (script : List Action) (driver : 
               omega (arith, number, counted, same, both)
 
           joined : (session_list ++ boot_list) ++ (confirm_list ++ [])
-              ≡ update_steps layout aim image first
+              ≡ all_steps layout aim image first
           joined =
               append_assoc session_list boot_list (confirm_list ++ [])
               ∙ ap (λ (l : List Step). session_list ++ (boot_list ++ l))
@@ -453,7 +457,7 @@ module _ (shown : ShowsNone) (rows : List Row) (script : List Action) (driver : 
         ends.leg ends.booted upto t (wants_confirm upto && is_done ends.leg.end) refl ends.behind
         end
 
-  -- an update that ends with a cut in step k leaves the flash of its steps, of which the k-th is torn
+  -- an update that ends with a cut in step k leaves the flash of its steps whose k-th is torn
   pub trial_cut : (upto : Upto) (t : Trial)
       → IsTrial (λ ran. IsDuoSession rows script driver layout aim image old ran) confirms layout
       first upto t

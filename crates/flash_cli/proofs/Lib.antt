@@ -15,6 +15,7 @@ pub mod ReadableLemmas
 pub mod EndLemmas
 pub mod ServedLemmas
 pub mod OpeningLemmas
+pub mod OpenedLemmas
 pub mod TrialLemmas
 pub mod TakenLemmas
 pub mod CountLemmas
@@ -25,5 +26,5 @@ pub mod RunLemmas
 pub mod UpdateLaws
 pub mod SweepLemmas
 pub mod SweptLemmas
-pub mod SweepLaws
+pub mod CutLaws
 pub mod InstallLaws

@@ -151,7 +151,7 @@ laid_by flash rows layout found laid =
     rw read (layout_is (layout_of rows) layout laid)
 
 -- the table of a flash, and the layout by it
-has_table : (flash : List ℕ) (rows : List Row) (layout : Places) → IsFlashSize (length flash)
+pub has_table : (flash : List ℕ) (rows : List Row) (layout : Places) → IsFlashSize (length flash)
     → rows_in flash ≡ Ok rows → layout_or_refusal (layout_of rows) ≡ Ok layout
     → HasTable rows layout flash
 unfolding rows_in

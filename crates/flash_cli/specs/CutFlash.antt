@@ -15,15 +15,16 @@ abbrev pub torn_by_first : List ℕ → List Step → ℕ → List ℕ
 torn_by_first flash [] tear = flash
 torn_by_first flash (step ∷ steps) tear = torn_by flash step tear
 
--- the steps before the k-th one are made, and this one is torn; the first step is step 1
+-- the steps before the k-th one are made, and this one is torn; the first step is step 1, and of
+-- fewer steps all are made
 abbrev pub cut_in : List ℕ → List Step → ℕ → ℕ → List ℕ
 cut_in flash steps k tear =
     torn_by_first (after_steps flash (take (k - 1) steps)) (drop (k - 1) steps) tear
 
 -- the steps of a whole update, in order: those of the session, of the boot of the flash behind it,
 -- and of the confirmation
-abbrev pub update_steps : Places → Aim → List ℕ → List ℕ → List Step
-update_steps layout aim image flash =
+abbrev pub all_steps : Places → Aim → List ℕ → List ℕ → List Step
+all_steps layout aim image flash =
     driver_steps layout aim image
     ++ (boot_steps layout (after_steps flash (driver_steps layout aim image))
     ++ rewrite layout.otadata (restated 2 aim.next.sector aim.next.entry))
@@ -31,4 +32,4 @@ update_steps layout aim image flash =
 -- the flash of an update whose power goes off in step k
 abbrev pub cut_flash : Places → Aim → List ℕ → List ℕ → ℕ → ℕ → List ℕ
 cut_flash layout aim image flash tear k =
-    cut_in flash (update_steps layout aim image flash) k tear
+    cut_in flash (all_steps layout aim image flash) k tear

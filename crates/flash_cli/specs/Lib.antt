@@ -28,5 +28,5 @@ pub mod Sweeping
 pub mod Served
 pub mod Laws
 pub mod UpdateLaws
-pub mod SweepLaws
+pub mod CutLaws
 pub mod Installs

@@ -1,7 +1,7 @@
 //! What follows from the clauses of the top call, over every call.
 
 ghost use Rattle.flash_cli.specs.Laws.{UsageIsOfNoCommand, NoCommandIsUsage, ToldFilesDetermine, RefusedPutsNothing, FaultlessIsWork, MadeIsWhole, MadeIsFactoryFlash};
-ghost use Rattle.flash_cli.specs.SweepLaws.{CutUpdatesAreByFiles, SilentSweepsAreByFiles, SilentSweepsAreTheSame};
+ghost use Rattle.flash_cli.specs.CutLaws.{CutUpdatesAreByFiles, SilentSweepsAreByFiles, SilentSweepsAreTheSame};
 ghost use Rattle.flash_cli.specs.UpdateLaws.{CutIsReached, ElseByImage, FailureIsReached};
 ghost use Rattle.flash_cli.specs.Installs.{FaultlessUpdateInstalls};
 
@@ -64,8 +64,8 @@ pub(crate) fn an_update_without_a_fault_installs_its_image()
 
 /// Where the script makes no step, the flash that a cut leaves is a function of the files, the tear
 /// number and the chosen step: that of the update's steps in one list, of which those before the
-/// chosen one are made and this one is torn. So are the lines of a sweep: two sweeps of one flash and
-/// one image by one tear number have one text.
+/// chosen one are made and this one is torn. So are the lines of a sweep: two sweeps of one flash
+/// and one image by one tear number have one text.
 pub(crate) fn cuts_beside_silent_scripts_are_functions()
     ensures flash { CutUpdatesAreByFiles }
     ensures lines { SilentSweepsAreByFiles }

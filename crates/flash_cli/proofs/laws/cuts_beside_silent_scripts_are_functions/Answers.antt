@@ -1,4 +1,4 @@
-use Rattle.flash_cli.proofs.SweepLaws.{are_the_same, by_files, cut_by_files}
+use Rattle.flash_cli.proofs.CutLaws.{are_the_same, by_files, cut_by_files}
 use Rattle.flash_cli.proofs.laws.cuts_beside_silent_scripts_are_functions.Goals as goal
 
 -- a whole image shows no fault, so its steps end with those of the entry

@@ -1,5 +1,5 @@
--- The lines of a sweep whose script makes no step.
-use Rattle.std.proofs.Common.{◌≡◌, inl, inr, ◌≤◌, ◌<◌, Bool, true, false, ℕ, suc, ◌+◌, ◌^◌, List, [], ◌∷◌, ◌++◌, length, length-append, Option, Some, None, Ok, refl, sym, ap, ◌∙◌, subst, arith}
+-- What a cut leaves beside a script that makes no step, and the lines of a sweep by it.
+use Rattle.std.proofs.Common.{◌≡◌, inl, inr, ◌≤◌, ◌<◌, Bool, true, false, ℕ, suc, ◌+◌, ◌^◌, All, List, [], ◌∷◌, ◌++◌, length, length-append, Option, Some, None, Ok, refl, sym, ap, ◌∙◌, subst, arith}
 use Rattle.std.specs.Prelude.{◌&&◌, if◌then◌else◌, slice_get}
 use Rattle.std.specs.Borrow.{Bor}
 use Rattle.nor_device.specs.declared.step.Step.{Step}
@@ -41,16 +41,17 @@ use Rattle.duo_run.proofs.FewStepsLemmas.{update_few}
 use Rattle.duo_run.proofs.OpeningLemmas.{aimed_opens, table_lays}
 use Rattle.flash_text.specs.BootText.{steps_line}
 use Rattle.flash_text.specs.SweepText.{cut_line, cut_lines, sweep_text}
-use Rattle.flash_cli.specs.CutFlash.{cut_flash, cut_in, update_steps}
+use Rattle.flash_cli.specs.CutFlash.{all_steps, cut_flash, cut_in}
 use Rattle.flash_cli.specs.Legs.{Confirms, Writes}
 use Rattle.flash_cli.specs.declared.status.Status.TheVariants.{PowerCut}
 use Rattle.flash_cli.specs.Opening.{AimsIn, Opening}
 use Rattle.flash_cli.specs.StepCount.{IsCounted, update_count}
-use Rattle.flash_cli.specs.SweepLaws.{AreBootsFrom, CutUpdatesAreByFiles, IsByFiles, IsSilent, SilentSweepsAreByFiles, SilentSweepsAreTheSame, SweepOf, cut_boots}
+use Rattle.flash_cli.specs.CutLaws.{AreBootsFrom, CutUpdatesAreByFiles, IsByFiles, IsSilent, SilentSweepsAreByFiles, SilentSweepsAreTheSame, SweepOf, cut_boots}
 use Rattle.flash_cli.specs.Updating.{last_end, status_by, steps_in}
 use Rattle.flash_cli.proofs.CountLemmas.{trial_counts}
 use Rattle.flash_cli.proofs.CutLemmas.{trial_cut}
 use Rattle.flash_cli.proofs.EndLemmas.{Chooses, done_is, second_true}
+use Rattle.flash_cli.proofs.OpenedLemmas.{opened}
 use Rattle.flash_cli.proofs.TakenLemmas.{apart, taken_trial, theirs}
 use Rattle.flash_cli.proofs.UpdateLaws.{cut_reached}
 
@@ -70,8 +71,8 @@ session_done confirms layout flash leg dev t false halts ends done =
 session_done confirms layout flash leg dev t true goes ends done =
     done_is leg.end (second_true (wants_boot Confirm) (is_done leg.end) goes)
 
--- an update ends with a cut in step k where the power is to go off there, and it does not end behind
--- fewer steps
+-- an update ends with a cut in step k where the power is to go off there, and it does not end
+-- before that step
 ends_cut : (dev : CutDevice Ram) (now k : ℕ) (end : LegEnd) → dev.cut ≡ Some k → dev.fail ≡ None
     → (IsAhead dev.cut now → ⊥) → HasEnd dev now end end → end ≡ Cut k
 ends_cut dev now k Done cut fail never has = absurd (never has.0.cut_ahead)
@@ -82,8 +83,28 @@ ends_cut dev now k (Cut j) cut fail never has =
     let same : j ≡ k = (let e = has.chosen_is in cc) in ap Cut same
 ends_cut dev now k (Device j) cut fail never has = absurd (let e = has.chosen_is in cc)
 
+-- an update may begin so, with this aim, and its script makes no step
+record IsQuiet (o : Opening) (aim : Aim) : Type 0 where
+  table : HasTable o.rows o.layout o.flash
+  bytes : All (λ b. b < 256) o.image
+  aims : AimsIn o.flash o.layout (length o.image) aim
+  silent : worker_steps o.rows o.script ≡ []
+
+-- what these files give
+quiet : (flash image text : List ℕ) (o : Opening) (aim : Aim) → IsSilent flash image text o aim
+    → IsQuiet o aim
+quiet flash image text o aim may =
+    let is = opened flash image text o may.given in
+    record {
+      table = is.table;
+      bytes = subst (All (λ b. b < 256)) (sym is.image_is) may.bytes;
+      aims = subst (λ (f : List ℕ). AimsIn f o.layout (length o.image) aim) (sym is.flash_is)
+          (subst (λ (i : List ℕ). AimsIn flash o.layout (length i) aim) (sym is.image_is) may.aims);
+      silent = may.silent;
+    }
+
 module _ (shown : ShowsNone) (o : Opening) (driver tear : ℕ) (aim : Aim) (below : driver < 2)
-    (may : IsSilent o aim) where
+    (may : IsQuiet o aim) where
   abbrev work : List Step
   work = worker_steps o.rows o.script
 
@@ -94,7 +115,7 @@ module _ (shown : ShowsNone) (o : Opening) (driver tear : ℕ) (aim : Aim) (belo
   opens = aimed_opens o.flash o.rows o.layout aim o.image may.table may.bytes may.aims
 
   abbrev total : ℕ
-  total = length (update_steps o.layout aim o.image o.flash)
+  total = length (all_steps o.layout aim o.image o.flash)
 
   abbrev whole : LegEnd
   whole = session_end (slot_size o.layout aim.slot) o.image
@@ -195,7 +216,8 @@ module _ (shown : ShowsNone) (o : Opening) (driver tear : ℕ) (aim : Aim) (belo
   cuts_boot : whole ≡ Done → (k : ℕ) (answers : List Booted)
       → AreCutFrom (Writes o driver aim) (Confirms o driver) o.layout o.flash tear aim o.image k
       answers
-      → k + length answers ≤ total + 1 → AreBootsFrom (cut_boots o aim tear) k answers
+      → k + length answers ≤ total + 1
+      → AreBootsFrom (cut_boots o.layout aim o.image o.flash tear) k answers
   cuts_boot done k [] cuts within = tt
   cuts_boot done k (booted ∷ more) cuts within = (
     subst (λ (f : List ℕ). Starts (boots_in held o.layout f) booted.app booted.info)
@@ -203,7 +225,8 @@ module _ (shown : ShowsNone) (o : Opening) (driver tear : ℕ) (aim : Aim) (belo
     cuts_boot done (suc k) more cuts.1 (omega (arith, within)),
   )
 
-  by_files_of : (s : Sweep) → SweepOf o driver tear aim s → IsByFiles o aim tear s
+  by_files_of : (s : Sweep) → SweepOf o driver tear aim s
+      → IsByFiles o.layout aim o.image o.flash tear s
   by_files_of s sweep =
       let trial = sweep.update.trial in
       let end = session_done (Confirms o driver) o.layout o.flash trial.session.leg
@@ -222,8 +245,11 @@ module _ (shown : ShowsNone) (o : Opening) (driver tear : ℕ) (aim : Aim) (belo
       }
 
 pub by_files : ShowsNone → SilentSweepsAreByFiles
-by_files shown o driver tear aim s below may sweep =
-    by_files_of shown o driver tear aim below may s sweep
+by_files shown flash image text o driver tear aim s below may sweep =
+    let is = opened flash image text o may.given in
+    subst (λ (f : List ℕ). IsByFiles o.layout aim image f tear s) is.flash_is
+    (subst (λ (i : List ℕ). IsByFiles o.layout aim i o.flash tear s) is.image_is
+    (by_files_of shown o driver tear aim below (quiet flash image text o aim may) s sweep))
 
 -- ---- one update
 
@@ -242,12 +268,15 @@ cut_by_status (FirstByte byte) k is = absurd cc
 cut_by_status Empty k is = absurd cc
 cut_by_status (Bad why) k is = absurd cc
 
+-- then no failure is chosen
 no_failure : (cut fail : Option ℕ) (k : ℕ) → NotBoth cut fail → cut ≡ Some k → fail ≡ None
 no_failure cut fail k (inl none) is = absurd cc
 no_failure cut fail k (inr none) is = none
 
 pub cut_by_files : ShowsNone → CutUpdatesAreByFiles
-cut_by_files shown options o t k sound is may status =
+cut_by_files shown flash image text options o t k sound is silent status =
+    let of = opened flash image text o silent.given in
+    let may = quiet flash image text o is.aim silent in
     let dev = is.device in
     let chosen : options.cut ≡ Some k = ((cut_reached options o t k sound is).0 status).0 in
     let back : o.flash ≡ dev.inner.bytes = sym is.fresh.bytes in
@@ -271,9 +300,12 @@ cut_by_files shown options o t k sound is may status =
     (same_end t.legs.items ∙ cut_by_status (last_end t.legs.items) k status)
     ∙ ap (λ n. cut_flash o.layout is.aim o.image dev.inner.bytes n k) is.fresh.tear
     ∙ ap (λ (f : List ℕ). cut_flash o.layout is.aim o.image f options.tear k) is.fresh.bytes
+    ∙ ap (λ (i : List ℕ). cut_flash o.layout is.aim i o.flash options.tear k) of.image_is
+    ∙ ap (λ (f : List ℕ). cut_flash o.layout is.aim image f options.tear k) of.flash_is
 
 -- ---- two sweeps
 
+-- two values that are there
 pair_of : (p q : App × List ℕ) → Some p ≡ Some q → p ≡ q
 pair_of p q is = cc is
 
@@ -289,6 +321,7 @@ line_same k found a b one two =
     one.told.long ∙ ap (λ (l : List ℕ). length l) image ∙ sym two.told.long in
     rw (app, long) refl
 
+-- so do all lines
 lines_same : (a b : ℕ → Option (App × List ℕ)) → ((k : ℕ) → a k ≡ b k) → (k : ℕ)
     → (xs ys : List Booted) → length xs ≡ length ys → AreBootsFrom a k xs → AreBootsFrom b k ys
     → cut_lines k xs ≡ cut_lines k ys
@@ -325,6 +358,7 @@ module _ (flash : List ℕ) (layout : Places) (n : ℕ) (a b : Aim)
       slot_same
       ∙ two.next in cc
 
+-- so it has one list of the driver's steps
 driver_same : (layout : Places) (a b : Aim) (image : List ℕ) → a.slot ≡ b.slot → a.next ≡ b.next
     → driver_steps layout a image ≡ driver_steps layout b image
 unfolding driver_steps
@@ -333,8 +367,9 @@ driver_same layout a b image slot next =
     ∙ ap (λ (e : NextEntry). steps_to layout.otadata (slice_get layout.slots b.slot)
     (record { sector = e.sector; entry = e.entry }) image) next
 
+-- and one of all steps
 steps_same : (layout : Places) (a b : Aim) (image flash : List ℕ) → a.slot ≡ b.slot
-    → a.next ≡ b.next → update_steps layout a image flash ≡ update_steps layout b image flash
+    → a.next ≡ b.next → all_steps layout a image flash ≡ all_steps layout b image flash
 steps_same layout a b image flash slot next =
     ap (λ (l : List Step). l ++ (boot_steps layout (after_steps flash l)
     ++ rewrite layout.otadata (restated 2 a.next.sector a.next.entry)))
@@ -344,53 +379,52 @@ steps_same layout a b image flash slot next =
     ++ rewrite layout.otadata (restated 2 e.sector e.entry))) next
 
 -- two updates of one flash and one image have one layout and one list of steps
-module _ (a b : Opening) (a_aim b_aim : Aim) (flash : a.flash ≡ b.flash) (image : a.image ≡ b.image)
-    (one : IsSilent a a_aim) (two : IsSilent b b_aim) where
+module _ (flash image a_text b_text : List ℕ) (a b : Opening) (a_aim b_aim : Aim)
+    (one : IsSilent flash image a_text a a_aim) (two : IsSilent flash image b_text b b_aim) where
+  layout_by : (text : List ℕ) (o : Opening) (aim : Aim) → IsSilent flash image text o aim
+      → layout_in flash ≡ Ok o.layout
+  layout_by text o aim may =
+      let is = opened flash image text o may.given in
+      sym (ap layout_in is.flash_is) ∙ table_lays o.flash o.rows o.layout is.table
+
   layout_same : a.layout ≡ b.layout
   layout_same =
       let same : Ok a.layout ≡ Ok b.layout =
-      sym (table_lays a.flash a.rows a.layout one.table) ∙ ap layout_in flash
-      ∙ table_lays b.flash b.rows b.layout two.table in cc
+      sym (layout_by a_text a a_aim one) ∙ layout_by b_text b b_aim two in cc
 
-  -- what the second aims at, on the first flash
-  aims_back : AimsIn a.flash a.layout (length a.image) b_aim
-  aims_back =
-      subst (λ (f : List ℕ). AimsIn f a.layout (length a.image) b_aim) (sym flash)
-      (subst (λ (l : Places). AimsIn b.flash l (length a.image) b_aim) (sym layout_same)
-      (subst (λ (i : List ℕ). AimsIn b.flash b.layout (length i) b_aim) (sym image) two.aims))
+  -- what the second aims at, by the layout of the first
+  aims_back : AimsIn flash a.layout (length image) b_aim
+  aims_back = subst (λ (l : Places). AimsIn flash l (length image) b_aim) (sym layout_same) two.aims
 
-  list_same : update_steps a.layout a_aim a.image a.flash
-      ≡ update_steps b.layout b_aim b.image b.flash
+  list_same : all_steps a.layout a_aim image flash ≡ all_steps b.layout b_aim image flash
   list_same =
-      steps_same a.layout a_aim b_aim a.image a.flash
-      (slot_same a.flash a.layout (length a.image) a_aim b_aim one.aims aims_back)
-      (next_same a.flash a.layout (length a.image) a_aim b_aim one.aims aims_back)
-      ∙ ap (λ (l : Places). update_steps l b_aim a.image a.flash) layout_same
-      ∙ ap (λ (i : List ℕ). update_steps b.layout b_aim i a.flash) image
-      ∙ ap (update_steps b.layout b_aim b.image) flash
+      steps_same a.layout a_aim b_aim image flash
+      (slot_same flash a.layout (length image) a_aim b_aim one.aims aims_back)
+      (next_same flash a.layout (length image) a_aim b_aim one.aims aims_back)
+      ∙ ap (λ (l : Places). all_steps l b_aim image flash) layout_same
 
-  boots_same : (tear k : ℕ) → cut_boots a a_aim tear k ≡ cut_boots b b_aim tear k
+  boots_same : (tear k : ℕ) → cut_boots a.layout a_aim image flash tear k
+      ≡ cut_boots b.layout b_aim image flash tear k
   boots_same tear k =
-      ap (λ (l : Places). boots_in held l (cut_flash a.layout a_aim a.image a.flash tear k))
-      layout_same
-      ∙ ap (λ (f : List ℕ). boots_in held b.layout
-      (cut_in f (update_steps a.layout a_aim a.image a.flash) k tear)) flash
-      ∙ ap (λ (l : List Step). boots_in held b.layout (cut_in b.flash l k tear)) list_same
+      ap (λ (l : Places). boots_in held l (cut_flash a.layout a_aim image flash tear k)) layout_same
+      ∙ ap (λ (l : List Step). boots_in held b.layout (cut_in flash l k tear)) list_same
 
 pub are_the_same : ShowsNone → SilentSweepsAreTheSame
 unfolding sweep_text
-are_the_same shown a b a_driver b_driver tear a_aim b_aim s t flash image a_below b_below one two
-    s_is t_is =
-    let first = by_files shown a a_driver tear a_aim s a_below one s_is in
-    let second = by_files shown b b_driver tear b_aim t b_below two t_is in
+are_the_same shown flash image a_text b_text a b a_driver b_driver tear a_aim b_aim s t a_below
+    b_below one two s_is t_is =
+    let first = by_files shown flash image a_text a a_driver tear a_aim s a_below one s_is in
+    let second = by_files shown flash image b_text b b_driver tear b_aim t b_below two t_is in
     let steps : s.steps ≡ t.steps =
     first.steps
-    ∙ ap (λ (l : List Step). length l) (list_same a b a_aim b_aim flash image one two)
+    ∙ ap (λ (l : List Step). length l)
+    (list_same flash image a_text b_text a b a_aim b_aim one two)
     ∙ sym second.steps in
     let long : length s.after.items ≡ length t.after.items =
     first.places ∙ steps ∙ sym second.places in
     ap (λ n. steps_line n ++ cut_lines 1 s.after.items) steps
     ∙ ap (λ (l : List ℕ). steps_line t.steps ++ l)
-    (lines_same (cut_boots a a_aim tear) (cut_boots b b_aim tear)
-    (boots_same a b a_aim b_aim flash image one two tear) 1 s.after.items t.after.items long
-    first.boots second.boots)
+    (lines_same (cut_boots a.layout a_aim image flash tear)
+    (cut_boots b.layout b_aim image flash tear)
+    (boots_same flash image a_text b_text a b a_aim b_aim one two tear) 1 s.after.items
+    t.after.items long first.boots second.boots)
