@@ -10,6 +10,7 @@ pub mod MomentLemmas
 pub mod MoveLemmas
 pub mod SessionLemmas
 pub mod StageLemmas
+pub mod CountLemmas
 pub mod EntryLemmas
 pub mod ReadBackLemmas
 pub mod SealLemmas

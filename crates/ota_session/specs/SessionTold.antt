@@ -1,5 +1,5 @@
 -- The answers of a session's calls.
-use Rattle.std.specs.Prelude.{◌≡◌, ◌≢◌, ℕ, ◌+◌, ◌==◌, ◌&&◌, not, if◌then◌else◌, List, [], ◌∷◌, length, slice_get, Option, Some, None, IfSome, Result, Ok, Err}
+use Rattle.std.specs.Prelude.{◌≡◌, ◌≢◌, ℕ, ◌+◌, ◌/◌, ◌==◌, ◌&&◌, not, if◌then◌else◌, List, [], ◌∷◌, length, slice_get, Option, Some, None, IfSome, Result, Ok, Err}
 use Rattle.nor_device.specs.declared.nor.NorFault.{NorFault}
 use Rattle.nor_device.specs.declared.nor.NorFault.TheVariants.{Failed, Off}
 use Rattle.partition_table.specs.Layout.{Places}
@@ -9,9 +9,11 @@ use Rattle.boot_run.specs.declared.aims.Aim.{Aim}
 use Rattle.bus_hub.specs.declared.did.Base.{Base}
 use Rattle.bus_hub.specs.declared.did.Did.{Did}
 use Rattle.cache_gate.specs.Own.{Own}
+use Rattle.flash_steps.specs.Steps.{write_steps}
 use Rattle.flash_ops.specs.declared.refusal.StepNo.{StepNo}
 use Rattle.flash_ops.specs.declared.refusal.StepNo.TheVariants as steps
-use Rattle.flash_ops.specs.Moves.{HasRun, Move, read_moves, write_moves}
+use Rattle.flash_ops.specs.Moves.{HasRun, Move, periods_of, read_moves, write_moves}
+use Rattle.flash_ops.specs.Told.{IsCountedUpTo, counted}
 use Rattle.ota_session.specs.declared.refusal.WriteNo.{WriteNo}
 use Rattle.ota_session.specs.declared.refusal.WriteNo.TheVariants as writes
 use Rattle.ota_session.specs.declared.refusal.EndNo.{EndNo}
@@ -23,6 +25,22 @@ use Rattle.ota_session.specs.Stages.{IsVerified, IsWriting, Verified, Writing, b
 abbrev pub cause_of : StepNo → NorFault
 cause_of steps.Device = Failed
 cause_of steps.Cut = Off
+
+-- the quiet periods that a call counted, by its answer: so many, or at most so many
+abbrev pub HasCounted : {A E : Type 0} → ℕ → Result A E → ℕ → ℕ → Type 0
+HasCounted n (Ok done) before now = now ≡ counted before n
+HasCounted n (Err back) before now = IsCountedUpTo n before now
+
+-- the quiet periods of a write that was refused: none for the session's first byte, else at most so
+-- many
+abbrev pub HasCountedSome : ℕ → WriteNo → ℕ → ℕ → Type 0
+HasCountedSome n (writes.FirstByte byte) before now = now ≡ before
+HasCountedSome n writes.Device before now = IsCountedUpTo n before now
+HasCountedSome n writes.Cut before now = IsCountedUpTo n before now
+
+-- how many quiet periods begin a session: one for each sector that the image needs
+abbrev pub begin_periods : Aim → ℕ
+begin_periods aim = (aim.length + 4095) / 4096
 
 -- how the read of the bytes that are written ended, for the device
 abbrev pub found_as : Result (Option BadImage) StepNo → Result (Unit {0}) NorFault
@@ -53,6 +71,10 @@ module _ {S : Type 0} where
   -- the moves of a piece
   abbrev pub piece_moves : Option ℕ → Writing (Base S Course) → List ℕ → List Move
   piece_moves probe w piece = write_moves probe (w.target.at + w.written) piece
+
+  -- how many quiet periods write a piece
+  abbrev pub piece_periods : Writing (Base S Course) → List ℕ → ℕ
+  piece_periods w piece = periods_of (write_steps (w.target.at + w.written) piece)
 
   -- a piece is written
   pub record HasWritten (probe : Option ℕ) (piece : List ℕ) (w w' : Writing (Base S Course))

@@ -5,7 +5,7 @@ ghost use Rattle.bus_hub.specs.declared.did.Base.{Base};
 ghost use Rattle.flash_ops.specs.Asked.{CanLook, HasRoomFor};
 ghost use Rattle.flash_ops.specs.Moves.{HasRun};
 ghost use Rattle.ota_session.specs.Stages.{IsToConfirm, confirm_moves};
-ghost use Rattle.ota_session.specs.SessionTold.{cause_of};
+ghost use Rattle.ota_session.specs.SessionTold.{HasCounted, cause_of};
 
 use crate::duty::UpdateDuty;
 use crate::entries::rewrite_entry;
@@ -37,6 +37,7 @@ pub fn confirm<'w, 'a, R: Wait, D: Crash, P: Pace>(
         core.entry back.core) }
     ensures probe { beat.new.probe ≡ beat.old.probe }
     ensures pace { beat.new.pace ≡ beat.old.pace }
+    ensures ops { HasCounted 2 result beat.old.ops beat.new.ops }
 {
     let (core, made) = rewrite_entry(rt, core, beat, layout.otadata, rewrite);
     match made {

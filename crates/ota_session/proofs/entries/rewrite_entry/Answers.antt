@@ -1,5 +1,8 @@
 -- The erase and the program are the steps of the rewrite, one behind the other.
-use Rattle.std.proofs.Common.{◌+◌, ◌*◌, ap}
+use Rattle.std.proofs.Common.{ℕ, ◌+◌, ◌*◌, ap, arith}
+use Rattle.flash_steps.specs.Steps.{write_steps}
+use Rattle.flash_ops.specs.Moves.{periods_of}
+use Rattle.ota_session.proofs.CountLemmas.{counted_err, counted_ok, counted_within, counts_on, entry_periods}
 use Rattle.ota_session.proofs.EntryLemmas.{can_erase, can_program, has_rewritten, not_erased}
 use Rattle.ota_session.proofs.entries.rewrite_entry.Goals as goal
 
@@ -30,3 +33,20 @@ returns-clause-ran g c =
     c.erase-core.result.0 c.write.result.0 c.erase-core.new.beat.probe c.erase-core.result.1
     c.write.result.1 c.in_default.field-0 c.erase-core.ensures.probe c.in_default.is
     c.erase-core.ensures.ran c.write.ensures.ran
+
+pub returns-in-Err-clause-ops : goal.returns-in-Err-clause-ops
+returns-in-Err-clause-ops g c =
+    counted_within 1 2 c.args.beat.now.ops c.erase-core.new.beat.ops (omega arith)
+    (counted_err 1 c.args.beat.now.ops c.erase-core.new.beat.ops c.erase-core.result.1
+    c.erase-core.ensures.ops c.in-Err.no c.in-Err.is)
+
+-- the program counts one period behind that of the erase
+pub returns-clause-ops : goal.returns-clause-ops
+returns-clause-ops g c =
+    let at : ℕ = c.args.otadata + 4096 * c.from.result in
+    let aligned = c.requires.aligned in
+    let one = entry_periods at c.put.new.out (omega arith) c.put.array_long in
+    counts_on 1 (periods_of (write_steps at c.put.new.out)) 2 c.args.beat.now.ops
+    c.erase-core.new.beat.ops c.write.new.beat.ops c.write.result.1 (omega (arith, one))
+    (counted_ok 1 c.args.beat.now.ops c.erase-core.new.beat.ops c.erase-core.result.1
+    c.erase-core.ensures.ops c.in_default.field-0 c.in_default.is) c.write.ensures.ops

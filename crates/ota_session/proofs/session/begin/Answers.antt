@@ -1,4 +1,5 @@
 -- What the erases ask, and what they leave.
+use Rattle.ota_session.proofs.CountLemmas.{begun_err, begun_ok}
 use Rattle.ota_session.proofs.StageLemmas.{can_begin, few_sectors, has_begun, has_slot, not_begun}
 use Rattle.ota_session.proofs.session.begin.Goals as goal
 
@@ -35,3 +36,15 @@ returns-in-Err-clause-err g c =
     c.args.beat.now.probe c.args.core c.requires.session c.sectors_of.result
     c.erase-core.result.0 c.erase-core.result.1 c.in-Err.no c.sectors_of.ensures.exact
     c.erase-core.ensures.ran c.in-Err.is
+
+pub returns-in-Ok-clause-ops : goal.returns-in-Ok-clause-ops
+returns-in-Ok-clause-ops g c =
+    begun_ok c.args.aim.now c.sectors_of.result c.args.beat.now.ops c.erase-core.new.beat.ops
+    c.erase-core.result.1 c.sectors_of.ensures.exact c.erase-core.ensures.ops c.in-Ok.field-0
+    c.in-Ok.is
+
+pub returns-in-Err-clause-ops : goal.returns-in-Err-clause-ops
+returns-in-Err-clause-ops g c =
+    begun_err c.args.aim.now c.sectors_of.result c.args.beat.now.ops c.erase-core.new.beat.ops
+    c.erase-core.result.1 c.sectors_of.ensures.exact c.erase-core.ensures.ops c.in-Err.no
+    c.in-Err.is
