@@ -1,9 +1,11 @@
 -- The sweep that the program makes of what it began with, by the legs of both cores.
 use mathlib.Core.Logic.{inl, inr}
-use Rattle.std.proofs.Common.{◌≡◌, ℕ, suc, false, List, [], ◌∷◌, Option, Some, None, Result, Ok, Err, refl, sym, subst}
+use Rattle.std.proofs.Common.{◌≡◌, ℕ, suc, false, List, [], ◌∷◌, length, Option, Some, None, Result, Ok, Err, refl, sym, subst}
 use Rattle.std.specs.Prelude.{IfErr, IfOk, codes}
 use Rattle.std.specs.Borrow.{Bor}
 use Rattle.nor_device.specs.Ram.{Ram}
+use Rattle.core_state.specs.Registers.{reset}
+use Rattle.crash_images.specs.Agrees.{Agrees}
 use Rattle.crash_images.specs.Cut.{CutDevice}
 use Rattle.partition_table.specs.declared.row.Row.{Row}
 use Rattle.partition_table.specs.Layout.{Places}
@@ -18,13 +20,18 @@ use Rattle.power_cut.specs.declared.outcome.Trial.{Trial}
 use Rattle.power_cut.specs.declared.swept.Sweep.{Sweep as Swept}
 use Rattle.power_cut.specs.declared.swept.SweepNo.{SweepNo}
 use Rattle.power_cut.specs.declared.swept.SweepNo.TheVariants.{Refused as RefusedSession, Memory as NoMemory}
+use Rattle.core_script.specs.declared.action.Action.{Action}
+use Rattle.flash_steps.specs.Parts.{open_addresses}
 use Rattle.power_cut.specs.Device.{IsWholeEnd}
+use Rattle.power_cut.specs.Kept.{MayConfirm}
 use Rattle.power_cut.specs.Update.{Opens, session_end, slot_size}
-use Rattle.power_cut.specs.Sweep.{AreCutFrom, IsFresh, IsRefused, IsRefusedBy, IsSweep, IsUpdateOf}
+use Rattle.power_cut.specs.Sweep.{AreCutFrom, IsFresh, IsRefused, IsRefusedBy, IsSweep, IsUntouched, IsUpdateOf}
 use Rattle.power_cut.specs.Whole.{is_done}
+use Rattle.power_cut.proofs.BesideLemmas.{confirm_beside, session_beside}
 use Rattle.power_cut.proofs.SweepLemmas.{fresh_ready}
 use Rattle.duo_run.specs.Both.{HasTable}
-use Rattle.duo_run.specs.Legs.{MayInstall}
+use Rattle.duo_run.specs.Legs.{ConfirmShare, IsDuoConfirm, IsDuoSession, MayInstall, SessionShare, ShowsApp}
+use Rattle.duo_run.specs.Worker.{WorkerShare}
 use Rattle.flash_text.specs.declared.refusal.Refusal.{Refusal}
 use Rattle.flash_cli.specs.declared.opening.Opening.{Opening as CodeOpening}
 use Rattle.flash_cli.specs.declared.status.Status.TheVariants.{Refused}
@@ -136,6 +143,29 @@ may_install rows layout flash aim image tear cut dev has opens fresh = record {
   table = subst (HasTable rows layout) (sym fresh.bytes) has;
   opens = subst (λ bytes. Opens layout bytes aim image) (sym fresh.bytes) opens;
 }
+
+-- it changes no byte beside its slot, the OTA data and the partitions that may be written to
+pub install_beside : (rows : List Row) (script : List Action) (driver : ℕ) (layout : Places)
+    (flash : List ℕ) (aim : Aim) (image : List ℕ) (tear : ℕ) (cut : Option ℕ)
+    (dev : CutDevice Ram) (ran : Ran) → Opens layout flash aim image → IsFresh flash cut tear dev
+    → IsDuoSession rows script driver layout aim image dev ran
+    → Agrees (IsUntouched layout aim (open_addresses rows)) dev.inner.bytes ran.dev.inner.bytes
+install_beside rows script driver layout flash aim image tear cut dev ran opens fresh is =
+    session_beside layout aim (open_addresses rows) (SessionShare layout aim image)
+    (WorkerShare rows reset script) driver (ShowsApp layout aim.running aim.info) image dev ran
+    (subst (λ bytes. Opens layout bytes aim image) (sym fresh.bytes) opens) is.leg
+
+-- and neither does a confirmation
+pub affirm_beside : (rows : List Row) (script : List Action) (driver : ℕ) (layout : Places)
+    (flash : List ℕ) (aim : Aim) (image : List ℕ) (at : Booted) (write : Rewrite)
+    (dev : CutDevice Ram) (ran : Ran) → Opens layout flash aim image
+    → MayConfirm layout flash dev at write
+    → IsDuoConfirm rows script driver layout at write dev ran
+    → Agrees (IsUntouched layout aim (open_addresses rows)) dev.inner.bytes ran.dev.inner.bytes
+affirm_beside rows script driver layout flash aim image at write dev ran opens may is =
+    confirm_beside layout aim (open_addresses rows) (ConfirmShare layout at write)
+    (WorkerShare rows reset script) driver (ShowsApp layout at.app at.info) (length flash) write
+    dev ran opens.placed may.confirming is.leg
 
 -- ---- a sweep that began
 

@@ -189,6 +189,7 @@ fn cut_legs<P: Pace + Sync, R: Threads + Wait + Sync>(
         flash,
         tear,
         layout,
+        duo.table.rows(),
         aim,
         image,
         &Legs { session, confirm },

@@ -10,4 +10,6 @@ pub mod CountLemmas
 pub mod InstalledLemmas
 pub mod EmptyLemmas
 pub mod OpensLemmas
+pub mod BesideLemmas
+pub mod RestoringLemmas
 pub mod SweepLemmas

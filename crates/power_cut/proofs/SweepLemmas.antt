@@ -1,4 +1,4 @@
--- Updates of fresh devices: which end one has that is not cut, and how long its flash is.
+-- Updates of fresh devices: which end one has that is not cut, and where its flash is as before.
 use Rattle.std.proofs.Common.{◌≡◌, ◌⊎◌, inl, inr, Bool, true, false, ℕ, suc, ◌+◌, List, [], ◌∷◌, ◌++◌, length, drop, slice_get, ◌≤◌, Option, Some, None, Result, Ok, Err, refl, sym, ap, ◌∙◌, subst, arith}
 use Rattle.std.specs.Prelude.{if◌then◌else◌, IfOk}
 use Rattle.std.specs.Borrow.{Bor}
@@ -8,10 +8,12 @@ use Rattle.std.proofs.Math.ListN.{drop_of_length-le}
 use Rattle.std.proofs.Math.Seq.{drop-cons}
 use Rattle.std.proofs.lemmas.List.{length-append}
 use Rattle.nor_device.specs.Ram.{Ram}
+use Rattle.crash_images.specs.Agrees.{Agrees}
 use Rattle.crash_images.specs.declared.cut.CutSetting.{CutSetting}
 use Rattle.crash_images.specs.declared.cut.Health.TheVariants.{Sound}
 use Rattle.crash_images.specs.Cut.{CutDevice, IsAhead, cut_device, restarted, unspent_of}
-use Rattle.partition_table.specs.Layout.{Places}
+use Rattle.crash_images.proofs.AgreesLaws.{agrees_self, agrees_twice}
+use Rattle.partition_table.specs.Layout.{IsPlaced, Places}
 use Rattle.rollback.specs.declared.rewrite.Rewrite.{Rewrite}
 use Rattle.boot_run.specs.declared.aims.Aim.{Aim}
 use Rattle.boot_run.specs.declared.booted.Booted.{Booted}
@@ -23,9 +25,10 @@ use Rattle.power_cut.specs.declared.legs.Upto.TheVariants.{Confirm}
 use Rattle.power_cut.specs.declared.outcome.Trial.{Trial}
 use Rattle.power_cut.specs.Device.{HasEnd, IsReady, IsUnbroken, is_off, running_in, setting_of}
 use Rattle.power_cut.specs.Update.{Opens, session_end, slot_size}
-use Rattle.power_cut.specs.Kept.{KeepsConfirm, KeepsSession}
+use Rattle.power_cut.specs.Kept.{KeepsSession}
 use Rattle.power_cut.specs.Whole.{AreDone, BehindBoot, BehindSession, EndsBooted, EndsConfirmed, EndsWith, EndsAsChosen, IsTrial, is_done, total_steps}
-use Rattle.power_cut.specs.Sweep.{AreCutFrom, IsCutAt, IsFresh, IsRefused, IsUpdateOf, MaySweep, refusal_in}
+use Rattle.power_cut.specs.Sweep.{AreCutFrom, IsCutAt, IsFresh, IsRefused, IsUntouched, IsUpdateOf, MaySweep, refusal_in}
+use Rattle.power_cut.proofs.BesideLemmas.{boot_beside}
 use Rattle.power_cut.proofs.EmptyLemmas.{nothing_keeps}
 use Rattle.power_cut.proofs.WholeLemmas.{done_is}
 
@@ -99,47 +102,49 @@ record IsSession (end : LegEnd) (legs : List Leg) : Type 0 where
 module _ (begins : CutDevice Ram → Type 0) (writes : CutDevice Ram → Ran → Type 0)
     (confirmable : CutDevice Ram → Bor Booted → Bor Rewrite → Type 0)
     (confirms : CutDevice Ram → Bor Booted → Bor Rewrite → Ran → Type 0) (layout : Places)
-    (flash : List ℕ) (tear : ℕ) (aim : Aim) (image : List ℕ)
-    (may : MaySweep begins writes confirmable confirms layout flash tear aim image) where
+    (flash : List ℕ) (tear : ℕ) (aim : Aim) (image : List ℕ) (others : ℕ → Bool)
+    (may : MaySweep begins writes confirmable confirms layout flash tear aim image others) where
   abbrev wanted : LegEnd
   wanted = session_end (slot_size layout aim.slot) image
 
-  -- the flash that is left is as long as the one at the begin
-  pub size_kept : (cut : Option ℕ) (t : Trial)
-      → IsUpdateOf writes confirms layout flash tear cut t
-      → length t.flash.items ≡ length flash
-  size_kept cut t u = at (is_done session.leg.end) u.trial.behind
+  abbrev Stays : ℕ → Type 0
+  Stays = IsUntouched layout aim others
+
+  -- the flash that is left agrees with the one at the begin where no step changes it
+  pub beside_kept : (cut : Option ℕ) (t : Trial) → IsPlaced layout (length flash)
+      → IsUpdateOf writes confirms layout flash tear cut t → Agrees Stays flash t.flash.items
+  beside_kept cut t placed u = at (is_done session.leg.end) u.trial.behind
     where
       session : Ran
       session = u.trial.session
 
-      keeps : KeepsSession layout aim image u.dev session
-      keeps = may.written cut u.dev session u.fresh u.trial.written
-
-      first : length session.dev.inner.bytes ≡ length flash
-      first = keeps.ran_is.size ∙ ap length u.fresh.bytes
+      first : Agrees Stays flash session.dev.inner.bytes
+      first = subst (λ (f : List ℕ). Agrees Stays f session.dev.inner.bytes) u.fresh.bytes
+          (may.written_beside cut u.dev session u.fresh u.trial.written)
 
       ended : (legs : List Leg) (confirm : _) (dev : CutDevice Ram)
-          → EndsWith legs confirm dev t → length dev.inner.bytes ≡ length flash
-          → length t.flash.items ≡ length flash
-      ended legs confirm dev ends size = ap length ends.flash_is ∙ size
+          → EndsWith legs confirm dev t → Agrees Stays flash dev.inner.bytes
+          → Agrees Stays flash t.flash.items
+      ended legs confirm dev ends agrees =
+          subst (λ (f : List ℕ). Agrees Stays flash f) (sym ends.flash_is) agrees
 
       booted : (b : Bool) (legs : List Leg) (dev : CutDevice Ram)
-          → length dev.inner.bytes ≡ length flash
-          → BehindBoot confirms layout flash b legs dev t
-          → length t.flash.items ≡ length flash
-      booted false legs dev size ends = ended legs None dev ends size
-      booted true legs dev size ends =
+          → Agrees Stays flash dev.inner.bytes → BehindBoot confirms layout flash b legs dev t
+          → Agrees Stays flash t.flash.items
+      booted false legs dev agrees ends = ended legs None dev ends agrees
+      booted true legs dev agrees ends =
           ended (legs ++ ends.ran.leg ∷ []) (Some ends.ran.journal) ends.ran.dev ends.ends
-          ((may.confirmed dev ends.at ends.write ends.ran ends.may ends.confirmed).ran_is.size
-          ∙ size)
+          (agrees_twice Stays flash dev.inner.bytes ends.ran.dev.inner.bytes agrees
+          (may.confirmed_beside dev ends.at ends.write ends.ran ends.may ends.confirmed))
 
       at : (b : Bool) → BehindSession confirms layout flash b Confirm session.leg session.dev t
-          → length t.flash.items ≡ length flash
+          → Agrees Stays flash t.flash.items
       at false ends = ended (session.leg ∷ []) None session.dev ends first
       at true ends =
           booted (is_done ends.leg.end) (session.leg ∷ ends.leg ∷ []) ends.new
-          (ends.booted.ran.size ∙ first) ends.behind
+          (agrees_twice Stays flash session.dev.inner.bytes ends.new.inner.bytes first
+          (boot_beside layout aim others (length flash) (restarted session.dev) ends.new ends.leg
+          placed ends.booted)) ends.behind
 
   -- an update that is not cut is made whole, or its session is not, by what its bytes show
   uncut : (t : Trial) → IsUpdateOf writes confirms layout flash tear None t
@@ -321,3 +326,10 @@ pub nothing_swept : (layout : Places) (flash : List ℕ) (tear : ℕ) (aim : Aim
 nothing_swept layout flash tear aim cut dev fresh opens =
     nothing_keeps layout aim dev (fresh_ready flash cut tear dev fresh)
     (subst (λ f. Opens layout f aim []) (sym fresh.bytes) opens)
+
+-- and changes nothing
+pub nothing_changed : (Stays : ℕ → Type 0) (dev : CutDevice Ram) (ran : Ran) → ran.dev ≡ dev
+    → Agrees Stays dev.inner.bytes ran.dev.inner.bytes
+nothing_changed Stays dev ran is =
+    subst (λ (d : CutDevice Ram). Agrees Stays dev.inner.bytes d.inner.bytes) (sym is)
+    (agrees_self Stays dev.inner.bytes)

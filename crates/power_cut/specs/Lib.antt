@@ -1,6 +1,6 @@
 -- In reading order: the device, how it refuses, how many steps were begun, a leg of two cores, what
 -- holds of the flash meanwhile, what a runner has to keep, a whole update, what stands behind its
--- data, and the flash of an update in which nothing broke off.
+-- data, the flash of an update in which nothing broke off, bytes that are copied back, and a sweep.
 pub mod Device
 pub mod Refused
 pub mod Counts
@@ -10,4 +10,5 @@ pub mod Kept
 pub mod Whole
 pub mod Behind
 pub mod Installed
+pub mod Restoring
 pub mod Sweep

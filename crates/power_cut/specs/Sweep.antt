@@ -1,9 +1,11 @@
 -- An update whose power is cut at each of its steps in turn.
-use Rattle.std.specs.Prelude.{◌≡◌, ◌≢◌, ℕ, suc, ◌+◌, Bool, true, false, List, [], ◌∷◌, length, Option, Some, None, if◌then◌else◌}
+use Rattle.std.specs.Prelude.{◌≡◌, ℕ, suc, ◌+◌, Bool, false, List, [], ◌∷◌, length, slice_get, Option, Some, None, if◌then◌else◌}
 use Rattle.std.specs.Borrow.{Bor}
 use Rattle.nor_device.specs.Ram.{Ram}
+use Rattle.crash_images.specs.Agrees.{Agrees, IsBeside}
 use Rattle.crash_images.specs.declared.cut.Health.TheVariants.{Sound}
 use Rattle.crash_images.specs.Cut.{CutDevice, IsAhead, cut_device}
+use Rattle.partition_table.specs.declared.row.Row.{Row}
 use Rattle.partition_table.specs.Layout.{Places}
 use Rattle.boot_select.specs.Boots.{entries_in, images_in}
 use Rattle.rollback.specs.declared.rewrite.Rewrite.{Rewrite}
@@ -11,9 +13,9 @@ use Rattle.image_verify.specs.Held.{held}
 use Rattle.boot_run.specs.declared.aims.Aim.{Aim}
 use Rattle.boot_run.specs.declared.booted.Booted.{Booted}
 use Rattle.boot_run.specs.Booted.{IsBoot}
+use Rattle.update_steps.specs.Driver.{whole_sectors}
 use Rattle.power_cut.specs.declared.legs.Leg.{Leg}
 use Rattle.power_cut.specs.declared.legs.LegEnd.{LegEnd}
-use Rattle.power_cut.specs.declared.legs.LegEnd.TheVariants.{Done}
 use Rattle.power_cut.specs.declared.legs.Ran.{Ran}
 use Rattle.power_cut.specs.declared.legs.Upto.TheVariants.{Confirm}
 use Rattle.power_cut.specs.declared.outcome.Trial.{Trial}
@@ -34,6 +36,22 @@ pub record IsFresh (flash : List ℕ) (cut : Option ℕ) (tear : ℕ) (dev : Cut
   pub ahead : IsAhead cut 0
   pub same : dev ≡ cut_device dev.inner cut tear None 0 0 Sound
 
+-- where a slot begins, 0 where there is none
+abbrev pub offset_or_none : Option Row → ℕ
+offset_or_none None = 0
+offset_or_none (Some row) = row.offset
+
+abbrev pub slot_offset : Places → ℕ → ℕ
+slot_offset layout slot = offset_or_none (slice_get layout.slots slot)
+
+-- no step of an update changes this address: it lies beside the sectors of the slot that the image
+-- needs and beside the OTA data, and the other core may not write to it
+pub record IsUntouched (layout : Places) (aim : Aim) (others : ℕ → Bool) (at : ℕ) : Type 0 where
+  pub slot : IsBeside (slot_offset layout aim.slot)
+      (slot_offset layout aim.slot + whole_sectors aim.length) at
+  pub otadata : IsBeside layout.otadata (layout.otadata + 0x2000) at
+  pub spared : others at ≡ false
+
 -- the end of the session, where it was not made whole
 abbrev pub refusal_in : List Leg → Option LegEnd
 refusal_in [] = None
@@ -44,18 +62,25 @@ refusal_in (leg ∷ legs) = if is_done leg.end then None else Some leg.end
 module _ (begins : CutDevice Ram → Type 0) (writes : CutDevice Ram → Ran → Type 0)
     (may : CutDevice Ram → Bor Booted → Bor Rewrite → Type 0)
     (confirms : CutDevice Ram → Bor Booted → Bor Rewrite → Ran → Type 0) where
-  -- it may be asked for an update of each fresh device over this flash, and keeps what one needs
+  -- it may be asked for an update of each fresh device over this flash, keeps what one needs, and
+  -- changes no byte that no step changes; `others` tells where the other core may write
   pub record MaySweep (layout : Places) (flash : List ℕ) (tear : ℕ) (aim : Aim) (image : List ℕ)
-      : Type 0 where
+      (others : ℕ → Bool) : Type 0 where
     pub may_write : (cut : Option ℕ) (dev : CutDevice Ram) → IsFresh flash cut tear dev
         → begins dev
     pub written : (cut : Option ℕ) (dev : CutDevice Ram) (ran : Ran) → IsFresh flash cut tear dev
         → writes dev ran → KeepsSession layout aim image dev ran
+    pub written_beside : (cut : Option ℕ) (dev : CutDevice Ram) (ran : Ran)
+        → IsFresh flash cut tear dev → writes dev ran
+        → Agrees (IsUntouched layout aim others) dev.inner.bytes ran.dev.inner.bytes
     pub may_confirm : (dev : CutDevice Ram) (at : Bor Booted) (write : Bor Rewrite)
         → MayConfirm layout flash dev at.now write.now → may dev at write
     pub confirmed : (dev : CutDevice Ram) (at : Bor Booted) (write : Bor Rewrite) (ran : Ran)
         → MayConfirm layout flash dev at.now write.now → confirms dev at write ran
         → KeepsConfirm layout write.now dev ran
+    pub confirmed_beside : (dev : CutDevice Ram) (at : Bor Booted) (write : Bor Rewrite)
+        (ran : Ran) → MayConfirm layout flash dev at.now write.now → confirms dev at write ran
+        → Agrees (IsUntouched layout aim others) dev.inner.bytes ran.dev.inner.bytes
 
 module _ (writes : CutDevice Ram → Ran → Type 0)
     (confirms : CutDevice Ram → Bor Booted → Bor Rewrite → Ran → Type 0) (layout : Places)

@@ -7,6 +7,7 @@ mod booting;
 mod closing;
 mod legs;
 mod outcome;
+mod restoring;
 mod run;
 mod runner;
 mod sweeping;

@@ -78,7 +78,7 @@ fn sweep_of_nothing(
         session: |dev: CutNor<RamNor>, _aim: &Aim, _image: &[u8]| untouched(alloc, dev),
         confirm: |dev: CutNor<RamNor>, _at: &Booted, _write: &Rewrite| unmade(dev),
     };
-    sweep(alloc, flash, 0, layout, aim, &[], &legs)
+    sweep(alloc, flash, 0, layout, &[], aim, &[], &legs)
 }
 
 /// A sweep whose first session finds no memory.
@@ -95,7 +95,7 @@ fn sweep_without_memory(
         session: |dev: CutNor<RamNor>, _aim: &Aim, _image: &[u8]| unmade(dev),
         confirm: |dev: CutNor<RamNor>, _at: &Booted, _write: &Rewrite| unmade(dev),
     };
-    sweep(alloc, flash, 0, layout, aim, &[], &legs)
+    sweep(alloc, flash, 0, layout, &[], aim, &[], &legs)
 }
 
 /// A flash of 1 MiB.

@@ -1,7 +1,10 @@
-use Rattle.std.proofs.Common.{rules}
+use Rattle.std.proofs.Common.{ap, rules, subst, sym}
+use Rattle.crash_images.specs.Agrees.{Agrees}
+use Rattle.flash_steps.specs.Parts.{open_addresses}
+use Rattle.power_cut.specs.Sweep.{IsUntouched}
 use Rattle.duo_run.proofs.OpeningLemmas.{duo_affirms, duo_keeps}
 use Rattle.flash_cli.proofs.RunLemmas.{may_affirm}
-use Rattle.flash_cli.proofs.SweepLemmas.{may_install, refused_with, sweep_with}
+use Rattle.flash_cli.proofs.SweepLemmas.{affirm_beside, install_beside, may_install, refused_with, sweep_with}
 use Rattle.flash_cli.proofs.sweeping.cut_legs.Goals as goal
 
 -- the legs of both cores may be run on each device that a sweep makes, and keep what it asks
@@ -28,6 +31,11 @@ sweep-requires-clause-runner g c =
       );
       written = λ cut dev ran fresh post. duo_keeps rows script driver layout flash has
           c.args.aim.now c.args.image.now dev ran (post.1 layout has.layout_is);
+      written_beside = λ cut dev ran fresh post. subst
+          (λ others. Agrees (IsUntouched layout c.args.aim.now others) dev.inner.bytes
+          ran.dev.inner.bytes) (sym (ap open_addresses c.rows.ensures.exact))
+          (install_beside rows script driver layout flash c.args.aim.now c.args.image.now
+          c.args.tear cut dev ran c.requires.opens fresh (post.1 layout has.layout_is));
       may_confirm = λ dev at write may. (
         c.requires.core,
         (
@@ -41,6 +49,11 @@ sweep-requires-clause-runner g c =
       );
       confirmed = λ dev at write ran may post. duo_affirms rows script driver layout flash has
           at.now write.now dev ran (post.1 layout has.layout_is);
+      confirmed_beside = λ dev at write ran may post. subst
+          (λ others. Agrees (IsUntouched layout c.args.aim.now others) dev.inner.bytes
+          ran.dev.inner.bytes) (sym (ap open_addresses c.rows.ensures.exact))
+          (affirm_beside rows script driver layout flash c.args.aim.now c.args.image.now at.now
+          write.now dev ran c.requires.opens may (post.1 layout has.layout_is));
     }
 
 -- the legs are those of both cores

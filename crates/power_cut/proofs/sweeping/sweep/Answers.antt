@@ -1,4 +1,4 @@
-use Rattle.std.proofs.Common.{◌≡◌, ◌∙◌, ap, sym, None, Some}
+use Rattle.std.proofs.Common.{◌≡◌, ◌∙◌, ap, sym, None}
 use Rattle.power_cut.specs.Sweep.{refusal_in}
 use Rattle.power_cut.specs.Whole.{total_steps}
 use Rattle.power_cut.proofs.SweepLemmas.{uncut_done, uncut_refused}
@@ -8,7 +8,7 @@ use Rattle.power_cut.proofs.sweeping.sweep.Goals as goal
 pub returns-in-Some-clause-refused : goal.returns-in-Some-clause-refused
 returns-in-Some-clause-refused g c =
     uncut_refused _ _ _ _ c.args.layout.now c.args.flash.now c.args.tear c.args.aim.now
-    c.args.image.now c.requires.runner c.in_ok-whole.whole c.in-Some.end
+    c.args.image.now _ c.requires.runner c.in_ok-whole.whole c.in-Some.end
     c.in_ok-whole.ensures.update
     (sym (ap refusal_in c.as_slice.ensures.value) ∙ sym c.refusal.ensures.exact ∙ c.in-Some.is)
 
@@ -17,7 +17,7 @@ returns-clause-sweep g c =
     let none : refusal_in c.in_ok-whole.whole.legs.items ≡ None =
     sym (ap refusal_in c.as_slice.ensures.value) ∙ sym c.refusal.ensures.exact ∙ c.in_default.is in
     let done = uncut_done _ _ _ _ c.args.layout.now c.args.flash.now c.args.tear c.args.aim.now
-    c.args.image.now c.requires.runner c.in_ok-whole.whole c.in_ok-whole.ensures.update none in
+    c.args.image.now _ c.requires.runner c.in_ok-whole.whole c.in_ok-whole.ensures.update none in
     record {
       whole = c.in_ok-whole.whole;
       update = c.in_ok-whole.ensures.update;
@@ -33,4 +33,4 @@ returns-clause-whole g c =
     let none : refusal_in c.in_ok-whole.whole.legs.items ≡ None =
     sym (ap refusal_in c.as_slice.ensures.value) ∙ sym c.refusal.ensures.exact ∙ c.in_default.is in
     (uncut_done _ _ _ _ c.args.layout.now c.args.flash.now c.args.tear c.args.aim.now
-    c.args.image.now c.requires.runner c.in_ok-whole.whole c.in_ok-whole.ensures.update none).1
+    c.args.image.now _ c.requires.runner c.in_ok-whole.whole c.in_ok-whole.ensures.update none).1
