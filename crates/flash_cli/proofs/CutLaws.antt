@@ -1,11 +1,11 @@
 -- What a cut leaves beside a script that makes no step, and the lines of a sweep by it.
-use Rattle.std.proofs.Common.{◌≡◌, inl, inr, ◌≤◌, ◌<◌, Bool, true, false, ℕ, suc, ◌+◌, ◌^◌, All, List, [], ◌∷◌, ◌++◌, length, length-append, Option, Some, None, Ok, refl, sym, ap, ◌∙◌, subst, arith}
+use Rattle.std.proofs.Common.{◌≡◌, inl, inr, ◌≤◌, ◌<◌, Bool, true, false, ℕ, suc, ◌+◌, All, List, [], ◌∷◌, ◌++◌, length, length-append, Option, Some, None, Ok, refl, sym, ap, ◌∙◌, subst, arith}
 use Rattle.std.specs.Prelude.{◌&&◌, if◌then◌else◌, slice_get}
 use Rattle.std.specs.Borrow.{Bor}
 use Rattle.nor_device.specs.declared.step.Step.{Step}
 use Rattle.nor_device.specs.Flash.{after_steps}
 use Rattle.nor_device.specs.Ram.{Ram}
-use Rattle.crash_images.specs.Cut.{CutDevice, IsAhead, NotBoth}
+use Rattle.crash_images.specs.Cut.{CutDevice, NotBoth}
 use Rattle.partition_table.specs.declared.app.App.{App}
 use Rattle.partition_table.specs.Layout.{Places, layout_in}
 use Rattle.otadata.specs.declared.next.NextEntry.{NextEntry}
@@ -20,7 +20,6 @@ use Rattle.boot_run.specs.declared.booted.Booted.{Booted}
 use Rattle.boot_run.specs.Aim.{aim_at}
 use Rattle.boot_run.specs.Rewriting.{rewrite}
 use Rattle.boot_run.specs.Verified.{Starts}
-use Rattle.flash_steps.specs.Parts.{open_addresses}
 use Rattle.update_steps.specs.Driver.{driver_steps, next_rewrite, steps_to}
 use Rattle.update_steps.proofs.SessionLemmas.{ShowsNone}
 use Rattle.power_cut.specs.declared.legs.Leg.{Leg}
@@ -31,10 +30,9 @@ use Rattle.power_cut.specs.declared.legs.Upto.TheVariants.{Confirm}
 use Rattle.power_cut.specs.declared.outcome.Trial.{Trial}
 use Rattle.power_cut.specs.declared.swept.Sweep.{Sweep}
 use Rattle.power_cut.specs.Device.{HasEnd}
-use Rattle.power_cut.specs.Sweep.{AreCutFrom, IsUpdateOf}
+use Rattle.power_cut.specs.Sweep.{AreCutFrom}
 use Rattle.power_cut.specs.Update.{Opens, session_end, slot_size}
-use Rattle.power_cut.specs.Whole.{AreDone, BehindSession, IsTrial, boot_steps, is_done, total_steps, wants_boot}
-use Rattle.power_cut.specs.Whole as power
+use Rattle.power_cut.specs.Whole.{AreDone, BehindSession, IsTrial, boot_steps, is_done, wants_boot}
 use Rattle.duo_run.specs.Both.{HasTable}
 use Rattle.duo_run.specs.Worker.{worker_steps}
 use Rattle.duo_run.proofs.FewStepsLemmas.{update_few}
@@ -45,20 +43,15 @@ use Rattle.flash_cli.specs.CutFlash.{all_steps, cut_flash, cut_in}
 use Rattle.flash_cli.specs.Legs.{Confirms, Writes}
 use Rattle.flash_cli.specs.declared.status.Status.TheVariants.{PowerCut}
 use Rattle.flash_cli.specs.Opening.{AimsIn, Opening}
-use Rattle.flash_cli.specs.StepCount.{IsCounted, update_count}
+use Rattle.flash_cli.specs.StepCount.{update_count}
 use Rattle.flash_cli.specs.CutLaws.{AreBootsFrom, CutUpdatesAreByFiles, IsByFiles, IsSilent, SilentSweepsAreByFiles, SilentSweepsAreTheSame, SweepOf, cut_boots}
-use Rattle.flash_cli.specs.Updating.{last_end, status_by, steps_in}
-use Rattle.flash_cli.proofs.CountLemmas.{trial_counts}
+use Rattle.flash_cli.specs.Sweeping.{IsSweptUpdate}
+use Rattle.flash_cli.specs.Updating.{last_end, status_by}
 use Rattle.flash_cli.proofs.CutLemmas.{trial_cut}
-use Rattle.flash_cli.proofs.EndLemmas.{Chooses, done_is, second_true}
+use Rattle.flash_cli.proofs.EndLemmas.{done_is, second_true}
 use Rattle.flash_cli.proofs.OpenedLemmas.{opened}
-use Rattle.flash_cli.proofs.TakenLemmas.{apart, taken_trial, theirs}
+use Rattle.flash_cli.proofs.SweepCountLemmas.{IsCountable, cut_ends, same_end, started, sweep_counts}
 use Rattle.flash_cli.proofs.UpdateLaws.{cut_reached}
-
--- the steps of legs, in the words of both crates
-same_total : (legs : List Leg) → steps_in legs ≡ total_steps legs
-same_total [] = refl
-same_total (leg ∷ legs) = ap (λ n. leg.steps + n) (same_total legs)
 
 -- the session of an update that was made whole was made whole
 session_done : (confirms : CutDevice Ram → Bor Booted → Bor Rewrite → Ran → Type 0)
@@ -70,18 +63,6 @@ session_done confirms layout flash leg dev t false halts ends done =
     (subst AreDone ends.legs_are done).0
 session_done confirms layout flash leg dev t true goes ends done =
     done_is leg.end (second_true (wants_boot Confirm) (is_done leg.end) goes)
-
--- an update ends with a cut in step k where the power is to go off there, and it does not end
--- before that step
-ends_cut : (dev : CutDevice Ram) (now k : ℕ) (end : LegEnd) → dev.cut ≡ Some k → dev.fail ≡ None
-    → (IsAhead dev.cut now → ⊥) → HasEnd dev now end end → end ≡ Cut k
-ends_cut dev now k Done cut fail never has = absurd (never has.0.cut_ahead)
-ends_cut dev now k Empty cut fail never has = absurd (never has.0.cut_ahead)
-ends_cut dev now k (FirstByte byte) cut fail never has = absurd (never has.0.cut_ahead)
-ends_cut dev now k (Bad why) cut fail never has = absurd (never has.0.cut_ahead)
-ends_cut dev now k (Cut j) cut fail never has =
-    let same : j ≡ k = (let e = has.chosen_is in cc) in ap Cut same
-ends_cut dev now k (Device j) cut fail never has = absurd (let e = has.chosen_is in cc)
 
 -- an update may begin so, with this aim, and its script makes no step
 record IsQuiet (o : Opening) (aim : Aim) : Type 0 where
@@ -107,9 +88,6 @@ module _ (shown : ShowsNone) (o : Opening) (driver tear : ℕ) (aim : Aim) (belo
     (may : IsQuiet o aim) where
   abbrev work : List Step
   work = worker_steps o.rows o.script
-
-  laid : layout_in o.flash ≡ Ok o.layout
-  laid = table_lays o.flash o.rows o.layout may.table
 
   opens : Opens o.layout o.flash aim o.image
   opens = aimed_opens o.flash o.rows o.layout aim o.image may.table may.bytes may.aims
@@ -137,81 +115,26 @@ module _ (shown : ShowsNone) (o : Opening) (driver tear : ℕ) (aim : Aim) (belo
       let two = length-append boot_list confirm_list in
       omega (arith, quiet, all, one, two)
 
-  module _ (cut : Option ℕ) (t : Trial)
-      (u : IsUpdateOf (Writes o driver aim) (Confirms o driver) o.layout o.flash tear cut t) where
-    abbrev first : List ℕ
-    first = u.dev.inner.bytes
-
-    back : first ≡ o.flash
-    back = u.fresh.bytes
-
-    table_here : HasTable o.rows o.layout first
-    table_here = subst (HasTable o.rows o.layout) (sym back) may.table
-
-    laid_here : layout_in first ≡ Ok o.layout
-    laid_here = ap layout_in back ∙ laid
-
-    opens_here : Opens o.layout first aim o.image
-    opens_here = subst (λ (f : List ℕ). Opens o.layout f aim o.image) (sym back) opens
-
-    trial_here : IsTrial (Writes o driver aim u.dev) (Confirms o driver) o.layout first Confirm t
-    trial_here = subst (λ (f : List ℕ).
-        IsTrial (Writes o driver aim u.dev) (Confirms o driver) o.layout f Confirm t) (sym back)
-        u.trial
-
-    chooses : Chooses cut None 0 u.dev
-    chooses = record {
-      cut_is = ap (λ (d : CutDevice Ram). d.cut) u.fresh.same;
-      fail_is = ap (λ (d : CutDevice Ram). d.fail) u.fresh.same;
-      steps_are = ap (λ (d : CutDevice Ram). d.steps) u.fresh.same;
-    }
-
-    short : length (driver_steps o.layout aim o.image) ≤ 2 ^ 40
-    short =
-        let few = update_few o.layout first aim o.image opens_here table_here.size in
-        omega (arith, few)
-
-    counted : IsCounted cut None (steps_in t.legs.items)
-        (update_count o.layout aim o.image work Confirm first)
-    counted = trial_counts shown o.layout aim o.image u.dev opens_here (open_addresses o.rows)
-        (apart o.rows o.script driver o.layout aim o.image u.dev table_here laid_here opens_here)
-        work
-        (theirs o.rows o.script driver o.layout aim o.image u.dev table_here laid_here opens_here)
-        driver below cut None (inr refl) chooses short
-        (let none = ap (λ (w : List Step). length w) may.silent in omega (arith, none)) Confirm t
-        (taken_trial o.rows o.script driver o.layout aim o.image u.dev table_here laid_here
-        opens_here Confirm t trial_here)
-
-    counted_all : whole ≡ Done → IsCounted cut None (total_steps t.legs.items) total
-    counted_all done =
-        subst (λ n. IsCounted cut None n total) (same_total t.legs.items)
-        (subst (IsCounted cut None (steps_in t.legs.items))
-        (ap (λ (f : List ℕ). update_count o.layout aim o.image work Confirm f) back
-        ∙ count_is done) counted)
+  countable : IsCountable o aim
+  countable = record {
+    table = may.table;
+    opens = opens;
+    few = (let none = ap (λ (w : List Step). length w) may.silent in omega (arith, none));
+  }
 
   -- what a cut in step k leaves
-  cut_leaves : (k : ℕ) (t : Trial)
-      → IsUpdateOf (Writes o driver aim) (Confirms o driver) o.layout o.flash tear (Some k) t
+  cut_leaves : (k : ℕ) (t : Trial) → (u : IsSweptUpdate o driver tear aim (Some k) t)
       → whole ≡ Done → k ≤ total
       → t.flash.items ≡ cut_flash o.layout aim o.image o.flash tear k
   cut_leaves k t u done within =
-      trial_cut shown o.rows o.script driver below o.layout aim o.image u.dev
-      (table_here (Some k) t u) (laid_here (Some k) t u) (opens_here (Some k) t u) may.silent k
-      (chooses (Some k) t u) (short (Some k) t u) Confirm t (trial_here (Some k) t u)
-      (ends_cut u.dev (u.dev.steps + total_steps t.legs.items) k (power.last_end Done t.legs.items)
-      (chooses (Some k) t u).cut_is (chooses (Some k) t u).fail_is never u.end)
+      let here = started o driver tear aim countable (Some k) t u in
+      trial_cut shown o.rows o.script driver below o.layout aim o.image u.dev here.table here.laid
+      here.opens may.silent k here.chooses here.short Confirm t here.trial
+      (cut_ends o driver tear aim countable shown below k t u
+      (subst (λ n. k ≤ n) (sym (count_is done)) within))
       ∙ ap (λ n. cut_flash o.layout aim o.image u.dev.inner.bytes n k)
       (ap (λ (d : CutDevice Ram). d.tear) u.fresh.same)
       ∙ ap (λ (f : List ℕ). cut_flash o.layout aim o.image f tear k) u.fresh.bytes
-    where
-      never : IsAhead u.dev.cut (u.dev.steps + total_steps t.legs.items) → ⊥
-      never ahead =
-          let fresh = (chooses (Some k) t u).steps_are in
-          let less : u.dev.steps + total_steps t.legs.items < k =
-          subst (λ (c : Option ℕ). IsAhead c (u.dev.steps + total_steps t.legs.items))
-          (chooses (Some k) t u).cut_is ahead in
-          let all = (counted_all (Some k) t u done).all (omega (arith, less, fresh)) tt in
-          omega (arith, less, fresh, all, within)
 
   cuts_boot : whole ≡ Done → (k : ℕ) (answers : List Booted)
       → AreCutFrom (Writes o driver aim) (Confirms o driver) o.layout o.flash tear aim o.image k
@@ -235,8 +158,8 @@ module _ (shown : ShowsNone) (o : Opening) (driver tear : ℕ) (aim : Aim) (belo
       let done : whole ≡ Done =
       (subst (HasEnd sweep.update.dev trial.session.dev.steps whole) end
       trial.written.leg.ran_is.end).1 in
-      let all = (counted_all None sweep.whole sweep.update done).all tt tt in
-      let steps : s.steps ≡ total = sweep.steps ∙ all in
+      let steps : s.steps ≡ total =
+      sweep_counts o driver tear aim countable shown below s sweep ∙ count_is done in
       record {
         steps = steps;
         places = sweep.places;
@@ -252,12 +175,6 @@ by_files shown flash image text o driver tear aim s below may sweep =
     (by_files_of shown o driver tear aim below (quiet flash image text o aim may) s sweep))
 
 -- ---- one update
-
--- how the last leg ended, in the words of both crates
-same_end : (legs : List Leg) → power.last_end Done legs ≡ last_end legs
-same_end [] = refl
-same_end (leg ∷ []) = refl
-same_end (leg ∷ next ∷ legs) = same_end (next ∷ legs)
 
 -- a loss of power in step k is the end of a leg
 cut_by_status : (end : LegEnd) (k : ℕ) → status_by end ≡ PowerCut k → end ≡ Cut k

@@ -24,6 +24,7 @@ pub mod BrokenLemmas
 pub mod CutLemmas
 pub mod RunLemmas
 pub mod UpdateLaws
+pub mod SweepCountLemmas
 pub mod SweepLemmas
 pub mod SweptLemmas
 pub mod CutLaws

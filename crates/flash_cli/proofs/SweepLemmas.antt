@@ -1,6 +1,6 @@
 -- The sweep that the program makes of what it began with, by the legs of both cores.
 use mathlib.Core.Logic.{inl, inr}
-use Rattle.std.proofs.Common.{◌≡◌, ℕ, suc, false, List, [], ◌∷◌, length, Option, Some, None, Result, Ok, Err, refl, sym, subst}
+use Rattle.std.proofs.Common.{◌≡◌, ◌≤◌, ℕ, suc, false, List, [], ◌∷◌, length, Option, Some, None, Result, Ok, Err, refl, sym, ◌∙◌, subst, arith}
 use Rattle.std.specs.Prelude.{IfErr, IfOk, codes}
 use Rattle.std.specs.Borrow.{Bor}
 use Rattle.nor_device.specs.Ram.{Ram}
@@ -22,6 +22,8 @@ use Rattle.power_cut.specs.declared.swept.SweepNo.{SweepNo}
 use Rattle.power_cut.specs.declared.swept.SweepNo.TheVariants.{Refused as RefusedSession, Memory as NoMemory}
 use Rattle.core_script.specs.declared.action.Action.{Action}
 use Rattle.flash_steps.specs.Parts.{open_addresses}
+use Rattle.update_steps.proofs.SessionLemmas.{ShowsNone}
+use Rattle.update_steps.proofs.TableLemmas.{table_fits}
 use Rattle.power_cut.specs.Device.{IsWholeEnd}
 use Rattle.power_cut.specs.Kept.{MayConfirm}
 use Rattle.power_cut.specs.Update.{Opens, session_end, slot_size}
@@ -32,6 +34,7 @@ use Rattle.power_cut.proofs.SweepLemmas.{fresh_ready}
 use Rattle.duo_run.specs.Both.{HasTable}
 use Rattle.duo_run.specs.Legs.{ConfirmShare, IsDuoConfirm, IsDuoSession, MayInstall, SessionShare, ShowsApp}
 use Rattle.duo_run.specs.Worker.{WorkerShare}
+use Rattle.duo_run.proofs.FewStepsLemmas.{worker_few}
 use Rattle.flash_text.specs.declared.refusal.Refusal.{Refusal}
 use Rattle.flash_cli.specs.declared.opening.Opening.{Opening as CodeOpening}
 use Rattle.flash_cli.specs.declared.status.Status.TheVariants.{Refused}
@@ -40,6 +43,7 @@ use Rattle.flash_cli.specs.Opening.{IsBegun, Opening, opening_with}
 use Rattle.flash_cli.specs.Legs.{Confirms, Writes}
 use Rattle.flash_cli.specs.Updating.{status_by}
 use Rattle.flash_cli.specs.Sweeping.{IsRefusedEnd, IsSwept, IsUnswept, IsUnsweptBy, SweepComes, swept_outcome}
+use Rattle.flash_cli.proofs.SweepCountLemmas.{IsCountable, cut_ends, same_end, sweep_counts}
 use Rattle.flash_cli.proofs.TrialLemmas.{trial_by}
 use Rattle.flash_cli.proofs.UpdateLaws.{whole_session}
 
@@ -171,19 +175,40 @@ affirm_beside rows script driver layout flash aim image at write dev ran opens m
 
 module _ (tear : ℕ) (o : CodeOpening) (image : List ℕ) (begun : IsBegun image o)
     (flash : List ℕ) (same : flash ≡ o.flash.items) where
-  pub swept_so : {E : Type 0} (r : Result Swept E)
+  -- its updates may begin, and their steps can be counted
+  countable : Opens o.layout o.flash.items o.aim image → length o.script ≤ 4096
+      → IsCountable (opening_with image o) o.aim
+  countable opens few = record {
+    table = begun.table;
+    opens = opens;
+    few = (let most = worker_few (length o.flash.items) o.table
+        (table_fits _ (length o.flash.items) o.table begun.table.table) begun.table.size o.script in
+        omega (arith, most, few));
+  }
+
+  pub swept_so : {E : Type 0} (r : Result Swept E) → ShowsNone
+      → Opens o.layout o.flash.items o.aim image → length o.script ≤ 4096
       → IfOk r (IsSweep (Writes (opening_with image o) 0 o.aim) (Confirms (opening_with image o) 0)
       o.layout flash tear o.aim image)
       → IfOk r (λ s. session_end (slot_size o.layout o.aim.slot) image ≡ ends.Done)
       → IfOk r (IsSwept tear (opening_with image o))
-  swept_so (Ok s) is whole = record {
-    aim = o.aim;
-    aims = begun.aims;
-    whole = whole;
-    sweep = subst (λ bytes. IsSweep (Writes (opening_with image o) 0 o.aim)
-        (Confirms (opening_with image o) 0) o.layout bytes tear o.aim image s) same is;
-  }
-  swept_so (Err reason) is whole = tt
+  swept_so (Ok s) shown opens few is whole =
+      let begins = opening_with image o in
+      let may = countable opens few in
+      let sweep = subst (λ bytes. IsSweep (Writes begins 0 o.aim) (Confirms begins 0) o.layout bytes
+      tear o.aim image s) same is in
+      let steps = sweep_counts begins 0 tear o.aim may shown (omega arith) s sweep in
+      record {
+        aim = o.aim;
+        aims = begun.aims;
+        whole = whole;
+        sweep = sweep;
+        steps = steps;
+        reached = λ k t within u. sym (same_end t.legs.items)
+            ∙ cut_ends begins 0 tear o.aim may shown (omega arith) k t u
+            (subst (λ n. k ≤ n) steps within);
+      }
+  swept_so (Err reason) shown opens few is whole = tt
 
   unswept_by : (reason : SweepNo)
       → IsRefusedBy (Writes (opening_with image o) 0 o.aim) (Confirms (opening_with image o) 0)

@@ -1,16 +1,19 @@
 -- What a sweep comes to: the steps of an update and what boots behind a cut in each of them, or a
 -- refusal; its status and its text. It puts no file.
-use Rattle.std.specs.Prelude.{◌≡◌, ◌⊎◌, ℕ, nat_lt, if◌then◌else◌, List, length, Option, Result, Ok, Err, string_bytes, codes}
+use Rattle.std.specs.Prelude.{◌≡◌, ◌⊎◌, ◌≤◌, ℕ, nat_lt, if◌then◌else◌, List, length, Option, Some, Result, Ok, Err, string_bytes, codes}
 use Rattle.boot_run.specs.declared.aims.Aim.{Aim}
 use Rattle.pipe_ends.specs.Store.{Files}
 use Rattle.pipe_ends.specs.Sink.{TellsAll, TellsSome}
 use Rattle.power_cut.specs.declared.legs.LegEnd.{LegEnd}
 use Rattle.power_cut.specs.declared.legs.LegEnd.TheVariants.{Done as DoneEnd, Device, Cut, FirstByte as FirstByteEnd, Empty as EmptyEnd, Bad}
+use Rattle.power_cut.specs.declared.legs.Upto.TheVariants.{Confirm}
+use Rattle.power_cut.specs.declared.outcome.Trial.{Trial}
 use Rattle.power_cut.specs.declared.swept.Sweep.{Sweep as Swept}
 use Rattle.power_cut.specs.declared.swept.SweepNo.{SweepNo}
 use Rattle.power_cut.specs.declared.swept.SweepNo.TheVariants.{Refused as RefusedSession, Memory as NoMemory}
 use Rattle.power_cut.specs.Update.{session_end, slot_size}
-use Rattle.power_cut.specs.Sweep.{IsRefused, IsSweep}
+use Rattle.power_cut.specs.Sweep.{IsRefused, IsSweep, IsUpdateOf}
+use Rattle.duo_run.specs.Worker.{worker_steps}
 use Rattle.flash_text.specs.declared.refusal.Refusal.{Refusal}
 use Rattle.flash_text.specs.declared.refusal.Refusal.TheVariants.{Absent as AbsentFile, SweepLimit}
 use Rattle.flash_text.specs.SweepText.{sweep_text}
@@ -26,7 +29,8 @@ use Rattle.flash_cli.specs.Report.{IsCountedFailure}
 use Rattle.flash_cli.specs.SweepWords.{Sweep}
 use Rattle.flash_cli.specs.Opening.{AimsIn, IsOpened, Opening, on_ok, opening_of, opening_with}
 use Rattle.flash_cli.specs.Legs.{Confirms, Writes}
-use Rattle.flash_cli.specs.Updating.{status_by}
+use Rattle.flash_cli.specs.StepCount.{update_count}
+use Rattle.flash_cli.specs.Updating.{last_end, status_by}
 
 -- an opening by an image that is no longer than one of a sweep may be, or the refusal
 abbrev pub within_sweep : Opening → Result Opening Refusal
@@ -44,13 +48,28 @@ sweep_reading s =
     Asks s.flash (λ flash. Asks s.image (λ image. Asks s.script (λ text.
     Ended (sweep_opening_of flash image text))))
 
+-- an update of a sweep that began so, of which this core is the driver, up to the confirmation: the
+-- power goes off in the step of this number, where one is given, by this tear number
+abbrev pub IsSweptUpdate : Opening → ℕ → ℕ → Aim → Option ℕ → Trial → Type 0
+IsSweptUpdate o driver tear aim cut t =
+    IsUpdateOf (Writes o driver aim) (Confirms o driver) o.layout o.flash tear cut t
+
+-- how many steps such an update has, by its files
+abbrev pub sweep_count : Opening → Aim → ℕ
+sweep_count o aim =
+    update_count o.layout aim o.image (worker_steps o.rows o.script) Confirm o.flash
+
 -- a sweep that began so, with this tear number: the steps of an update by both cores that was not
--- cut, of which core 0 is the driver, and what boots behind a cut in each of them
+-- cut, of which core 0 is the driver, and what boots behind a cut in each of them. These are as many
+-- as the files give, and an update that is cut in one of them ends there
 pub record IsSwept (tear : ℕ) (o : Opening) (s : Swept) : Type 0 where
   pub aim : Aim
   pub aims : AimsIn o.flash o.layout (length o.image) aim
   pub whole : session_end (slot_size o.layout aim.slot) o.image ≡ DoneEnd
   pub sweep : IsSweep (Writes o 0 aim) (Confirms o 0) o.layout o.flash tear aim o.image s
+  pub steps : s.steps ≡ sweep_count o aim
+  pub reached : (k : ℕ) (t : Trial) → k ≤ s.steps → IsSweptUpdate o 0 tear aim (Some k) t
+      → last_end t.legs.items ≡ Cut k
 
 -- a sweep that began so is refused: the session of the update that is not cut ends so, by what the
 -- bytes of the image show

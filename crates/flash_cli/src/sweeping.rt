@@ -24,6 +24,7 @@ use crash_images::CutNor;
 use duo_run::Duo;
 use flash_ops::Pace;
 use flash_text::Refusal;
+use image_verify::whole_images_show_no_fault;
 use nor_device::RamNor;
 use partition_table::Layout;
 use pipe_ends::Store;
@@ -118,6 +119,10 @@ fn cut_each<P: Pace + Sync, R: Threads + Wait + Sync>(
     ensures swept { IfOk result (IsSwept tear (opening_with image.now opening.now)) }
     ensures refused { IfErr result (IsUnsweptBy tear (opening_with image.now opening.now)) }
 {
+    // What the clause on a sweep rests on: an image shows no fault exactly where it is whole, and a
+    // script has so few actions that its steps can be counted.
+    whole_images_show_no_fault();
+    let _few = opening.script.len();
     let duo = Duo {
         table: &opening.table,
         script: &opening.script,

@@ -26,7 +26,13 @@ cut_legs-requires-clause-opens g c κs within =
 pub returns-clause-swept : goal.returns-clause-swept
 returns-clause-swept g c =
     swept_so c.args.tear c.args.opening.now c.args.image.now c.requires.begun c.deref.result.now
-    c.deref.ensures.value c.cut_legs.result c.cut_legs.ensures.sweep c.cut_legs.ensures.whole
+    c.deref.ensures.value c.cut_legs.result c.whole_images_show_no_fault.ensures
+    (aimed_opens c.args.opening.now.flash.items c.args.opening.now.table
+    c.args.opening.now.layout c.args.opening.now.aim c.args.image.now c.requires.begun.table
+    (All-from_get_or (λ b. b < 256) c.args.image.now 0 (λ i inside. omega (arith, c.type_inv.image i)))
+    c.requires.begun.aims)
+    (omega (arith, c.len-few.ensures.exact, c.len-few.ensures.most)) c.cut_legs.ensures.sweep
+    c.cut_legs.ensures.whole
 
 -- or how its session ended
 pub returns-clause-refused : goal.returns-clause-refused
