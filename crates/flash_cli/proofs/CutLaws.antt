@@ -62,13 +62,14 @@ same_total (leg ∷ legs) = ap (λ n. leg.steps + n) (same_total legs)
 
 -- the session of an update that was made whole was made whole
 session_done : (confirms : CutDevice Ram → Bor Booted → Bor Rewrite → Ran → Type 0)
-    (layout : Places) (flash : List ℕ) (leg : Leg) (dev : CutDevice Ram) (t : Trial) (goes : Bool)
+    (layout : Places) (flash : List ℕ) (aim : Aim) (image : List ℕ) (leg : Leg)
+    (dev : CutDevice Ram) (t : Trial) (goes : Bool)
     → (wants_boot Confirm && is_done leg.end) ≡ goes
-    → BehindSession confirms layout flash goes Confirm leg dev t → AreDone t.legs.items
+    → BehindSession confirms layout flash aim image goes Confirm leg dev t → AreDone t.legs.items
     → leg.end ≡ Done
-session_done confirms layout flash leg dev t false halts ends done =
+session_done confirms layout flash aim image leg dev t false halts ends done =
     (subst AreDone ends.legs_are done).0
-session_done confirms layout flash leg dev t true goes ends done =
+session_done confirms layout flash aim image leg dev t true goes ends done =
     done_is leg.end (second_true (wants_boot Confirm) (is_done leg.end) goes)
 
 -- an update ends with a cut in step k where the power is to go off there, and it does not end
@@ -138,7 +139,8 @@ module _ (shown : ShowsNone) (o : Opening) (driver tear : ℕ) (aim : Aim) (belo
       omega (arith, quiet, all, one, two)
 
   module _ (cut : Option ℕ) (t : Trial)
-      (u : IsUpdateOf (Writes o driver aim) (Confirms o driver) o.layout o.flash tear cut t) where
+      (u : IsUpdateOf (Writes o driver aim) (Confirms o driver) o.layout o.flash tear aim o.image
+      cut t) where
     abbrev first : List ℕ
     first = u.dev.inner.bytes
 
@@ -154,10 +156,11 @@ module _ (shown : ShowsNone) (o : Opening) (driver tear : ℕ) (aim : Aim) (belo
     opens_here : Opens o.layout first aim o.image
     opens_here = subst (λ (f : List ℕ). Opens o.layout f aim o.image) (sym back) opens
 
-    trial_here : IsTrial (Writes o driver aim u.dev) (Confirms o driver) o.layout first Confirm t
+    trial_here : IsTrial (Writes o driver aim u.dev) (Confirms o driver) o.layout first aim o.image
+        Confirm t
     trial_here = subst (λ (f : List ℕ).
-        IsTrial (Writes o driver aim u.dev) (Confirms o driver) o.layout f Confirm t) (sym back)
-        u.trial
+        IsTrial (Writes o driver aim u.dev) (Confirms o driver) o.layout f aim o.image Confirm t)
+        (sym back) u.trial
 
     chooses : Chooses cut None 0 u.dev
     chooses = record {
@@ -191,7 +194,8 @@ module _ (shown : ShowsNone) (o : Opening) (driver tear : ℕ) (aim : Aim) (belo
 
   -- what a cut in step k leaves
   cut_leaves : (k : ℕ) (t : Trial)
-      → IsUpdateOf (Writes o driver aim) (Confirms o driver) o.layout o.flash tear (Some k) t
+      → IsUpdateOf (Writes o driver aim) (Confirms o driver) o.layout o.flash tear aim o.image
+      (Some k) t
       → whole ≡ Done → k ≤ total
       → t.flash.items ≡ cut_flash o.layout aim o.image o.flash tear k
   cut_leaves k t u done within =
@@ -229,7 +233,7 @@ module _ (shown : ShowsNone) (o : Opening) (driver tear : ℕ) (aim : Aim) (belo
       → IsByFiles o.layout aim o.image o.flash tear s
   by_files_of s sweep =
       let trial = sweep.update.trial in
-      let end = session_done (Confirms o driver) o.layout o.flash trial.session.leg
+      let end = session_done (Confirms o driver) o.layout o.flash aim o.image trial.session.leg
       trial.session.dev sweep.whole (wants_boot Confirm && is_done trial.session.leg.end) refl
       trial.behind sweep.done in
       let done : whole ≡ Done =
@@ -296,7 +300,7 @@ cut_by_files shown flash image text options o t k sound is silent status =
     })
     (omega (arith, few)) options.upto t
     (subst (λ (f : List ℕ). IsTrial (Writes o options.driver is.aim dev)
-    (Confirms o options.driver) o.layout f options.upto t) back is.trial)
+    (Confirms o options.driver) o.layout f is.aim o.image options.upto t) back is.trial)
     (same_end t.legs.items ∙ cut_by_status (last_end t.legs.items) k status)
     ∙ ap (λ n. cut_flash o.layout is.aim o.image dev.inner.bytes n k) is.fresh.tear
     ∙ ap (λ (f : List ℕ). cut_flash o.layout is.aim o.image f options.tear k) is.fresh.bytes

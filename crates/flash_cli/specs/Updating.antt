@@ -74,7 +74,7 @@ pub record IsUpdate (options : Options) (o : Opening) (t : Trial) : Type 0 where
   pub device : CutDevice Ram
   pub fresh : IsFresh options o.flash device
   pub trial : IsTrial (Writes o options.driver aim device) (Confirms o options.driver) o.layout
-      o.flash options.upto t
+      o.flash aim o.image options.upto t
   pub ends : last_end t.legs.items
       ≡ chosen_end options.cut options.fail (count_of options o aim)
       (session_end (slot_size o.layout aim.slot) o.image)
