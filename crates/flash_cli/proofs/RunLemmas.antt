@@ -129,6 +129,7 @@ module _ (shown : ShowsNone) (options : Options) (o : CodeOpening) (image : List
         device = dev;
         fresh = subst (λ bytes. IsFresh options bytes dev) (sym fresh.bytes) fresh;
         trial = made.trial;
+        apart = apart o.table o.script options.driver o.layout o.aim image dev table laid starts;
         ends = reached
             ∙ count_end options.cut options.fail (steps_in t.legs.items)
             (update_count o.layout o.aim image (worker_steps o.table o.script) options.upto

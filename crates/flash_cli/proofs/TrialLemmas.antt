@@ -30,6 +30,7 @@ module _ (confirms others : CutDevice Ram → Bor Booted → Bor Rewrite → Ran
     may = ends.may;
     ran = ends.ran;
     confirmed = so dev ends.at ends.write ends.ran ends.may ends.confirmed;
+    moments = ends.moments;
     ends = ends.ends;
   }
 

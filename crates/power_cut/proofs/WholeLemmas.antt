@@ -37,7 +37,7 @@ use Rattle.power_cut.specs.declared.outcome.Trial.{Trial}
 use Rattle.power_cut.specs.Device.{HasEnd, IsReady, IsWholeEnd, running_in}
 use Rattle.power_cut.specs.Update.{BootsEither, Opens, sealed_end, session_end, slot_size}
 use Rattle.power_cut.specs.Kept.{IsStarted, KeepsConfirm, KeepsSession, MayConfirm}
-use Rattle.power_cut.specs.Whole.{AreDone, BehindBoot, BehindSession, BootsNew, EndsAsChosen, EndsWith, HasBooted, HoldsBoot, IsBootLeg, IsClosed, IsOutcome, boot_steps, confirm_of, is_done, wants_boot, wants_confirm}
+use Rattle.power_cut.specs.Whole.{AreDone, BehindBoot, BehindSession, BootsNew, EndsAsChosen, EndsWith, HasBooted, HoldsBoot, HoldsConfirm, IsBootLeg, IsClosed, IsOutcome, boot_steps, confirm_of, is_done, wants_boot, wants_confirm}
 use Rattle.power_cut.specs.Behind.{IsAnnounced, IsBehind}
 use Rattle.power_cut.proofs.ChosenLemmas.{boot_chosen, confirm_chosen, session_chosen}
 use Rattle.power_cut.proofs.BehindLemmas.{announced_active, announced_boots, announced_writes, behind_boots, behind_some, beside_behind, beside_here, booted_first, booted_waits, confirmed_new, confirming, left_behind, session_announced, two, waiting}
@@ -213,6 +213,18 @@ module _ (shown : ShowsNone) (layout : Places) (aim : Aim) (image : List ℕ) (o
               };
               some = behind_some layout first aim image opens dev.inner.bytes waits.behind;
             })
+
+        -- one of both applications boots at every moment of it
+        pub confirm_holds : (write : Rewrite) → write ≡ confirming layout first aim image opens
+            → HoldsConfirm layout first aim image dev.inner.bytes write
+        confirm_holds write is = λ others left apart holds.
+            behind_boots layout first aim image opens left
+            (beside_behind layout first aim image opens others dev.inner.bytes left write
+            holds.made holds.rest apart waits.behind (ap (λ (w : Rewrite). w.sector) is)
+            (let short = opens.stored.sized.label in
+            let same : length write.entry.label ≡ length aim.next.entry.label =
+            ap (λ (w : Rewrite). length w.entry.label) is in omega (arith, short, same))
+            holds.split holds.stands)
 
         module _ (write : Rewrite) (write_is : write ≡ confirming layout first aim image opens)
             (last : Ran) (kept : KeepsConfirm layout write dev last) where
@@ -436,6 +448,8 @@ module _ (shown : ShowsNone) (layout : Places) (aim : Aim) (image : List ℕ) (o
                                       (sym of_is) confirm_may);
                                   ran = last;
                                   confirmed = confirmed;
+                                  moments = confirm_holds ran keeps done_here dev leg it whole_boot
+                                      of.now (of_is ∙ write_is);
                                   ends = subst
                                       (λ (l : List Leg). EndsWith l (Some last.journal) last.dev t)
                                       legs_are closed.ends;

@@ -22,6 +22,7 @@ use Rattle.boot_run.specs.Booted.{IsBoot}
 use Rattle.boot_run.specs.Made.{AreMadeBy}
 use Rattle.boot_run.specs.Rewriting.{rewrites}
 use Rattle.boot_run.specs.Verified.{Starts}
+use Rattle.update_steps.specs.Beside.{IsApart}
 use Rattle.power_cut.specs.declared.legs.Leg.{Leg}
 use Rattle.power_cut.specs.declared.legs.LegEnd.{LegEnd}
 use Rattle.power_cut.specs.declared.legs.LegEnd.TheVariants.{Done, Device, Cut, FirstByte, Empty, Bad}
@@ -30,7 +31,7 @@ use Rattle.power_cut.specs.declared.legs.Upto.{Upto}
 use Rattle.power_cut.specs.declared.legs.Upto.TheVariants.{Session, Boot, Confirm}
 use Rattle.power_cut.specs.declared.outcome.Trial.{Trial}
 use Rattle.power_cut.specs.Device.{HasEnd, IsRan, IsReady, MayEnd, MayRefuse, MayTear, MustRefuse, setting_of}
-use Rattle.power_cut.specs.Update.{BootsEither}
+use Rattle.power_cut.specs.Update.{BootsEither, HoldsRewrite}
 use Rattle.power_cut.specs.Kept.{MayConfirm}
 
 -- the steps of a boot of this flash
@@ -43,6 +44,13 @@ abbrev pub HoldsBoot : Places → List ℕ → Aim → List ℕ → List ℕ →
 HoldsBoot layout first aim image flash =
     (left : List ℕ) → LeftAfter flash (boot_steps layout flash) left
     → BootsEither layout first aim image left × (boots_in held layout left ≢ None)
+
+-- so boots, at every moment of a confirmation that makes this rewrite, each flash of which
+-- `HoldsRewrite` holds, beside a core that writes to nothing that a boot reads
+abbrev pub HoldsConfirm : Places → List ℕ → Aim → List ℕ → List ℕ → Rewrite → Type 0
+HoldsConfirm layout first aim image flash write =
+    (others : ℕ → Bool) (left : List ℕ) → IsApart layout others
+    → HoldsRewrite layout flash write others left → BootsEither layout first aim image left
 
 -- how a boot that answered so ends as a leg whose last step has this number
 abbrev pub end_by : ℕ → Result (Option Booted) NorFault → LegEnd
@@ -113,13 +121,14 @@ pub record EndsWith (legs : List Leg) (confirm : Option Kept) (dev : CutDevice R
 -- update began on the flash `first`, and is of `image`
 module _ (confirms : CutDevice Ram → Bor Booted → Bor Rewrite → Ran → Type 0) (layout : Places)
     (first : List ℕ) (aim : Aim) (image : List ℕ) where
-  -- behind the boot: a confirmation of what was booted
+  -- behind the boot: a confirmation of what was booted, and what holds at its moments
   pub record EndsConfirmed (legs : List Leg) (dev : CutDevice Ram) (t : Trial) : Type 0 where
     pub at : Bor Booted
     pub write : Bor Rewrite
     pub may : MayConfirm layout first dev at.now write.now
     pub ran : Ran
     pub confirmed : confirms dev at write ran
+    pub moments : HoldsConfirm layout first aim image dev.inner.bytes write.now
     pub ends : EndsWith (legs ++ ran.leg ∷ []) (Some ran.journal) ran.dev t
 
   -- or nothing
