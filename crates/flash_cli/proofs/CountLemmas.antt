@@ -182,7 +182,7 @@ module _ (shown : ShowsNone) (layout : Places) (aim : Aim) (image : List ℕ) (o
 
         behind_boot : (upto : Upto) (t : Trial) (goes : Bool)
             → (wants_confirm upto && is_done leg.end) ≡ goes
-            → BehindBoot confirms layout first goes (ran.leg ∷ leg ∷ []) dev t
+            → BehindBoot confirms layout first aim image goes (ran.leg ∷ leg ∷ []) dev t
             → IsCounted cut fail (steps_in t.legs.items)
             (sessions + (boots + confirm_count upto work))
         behind_boot upto t false halts ends =
@@ -228,7 +228,7 @@ module _ (shown : ShowsNone) (layout : Places) (aim : Aim) (image : List ℕ) (o
 
     behind_session : (upto : Upto) (t : Trial) (goes : Bool)
         → (wants_boot upto && is_done ran.leg.end) ≡ goes
-        → BehindSession confirms layout first goes upto ran.leg ran.dev t
+        → BehindSession confirms layout first aim image goes upto ran.leg ran.dev t
         → IsCounted cut fail (steps_in t.legs.items) (update_count layout aim image work upto first)
     behind_session upto t false halts ends =
         alone upto t halts (ap steps_in ends.legs_are ∙ omega arith)
@@ -245,7 +245,8 @@ module _ (shown : ShowsNone) (layout : Places) (aim : Aim) (image : List ℕ) (o
 
   -- an update begins so many steps
   pub trial_counts : (upto : Upto) (t : Trial)
-      → IsTrial (TakenSession layout others aim image work driver old) confirms layout first upto t
+      → IsTrial (TakenSession layout others aim image work driver old) confirms layout first aim
+      image upto t
       → IsCounted cut fail (steps_in t.legs.items) (update_count layout aim image work upto first)
   trial_counts upto t trial =
       behind_session trial.session trial.written upto t

@@ -55,13 +55,14 @@ use Rattle.flash_cli.proofs.UpdateLaws.{cut_reached}
 
 -- the session of an update that was made whole was made whole
 session_done : (confirms : CutDevice Ram → Bor Booted → Bor Rewrite → Ran → Type 0)
-    (layout : Places) (flash : List ℕ) (leg : Leg) (dev : CutDevice Ram) (t : Trial) (goes : Bool)
+    (layout : Places) (flash : List ℕ) (aim : Aim) (image : List ℕ) (leg : Leg)
+    (dev : CutDevice Ram) (t : Trial) (goes : Bool)
     → (wants_boot Confirm && is_done leg.end) ≡ goes
-    → BehindSession confirms layout flash goes Confirm leg dev t → AreDone t.legs.items
+    → BehindSession confirms layout flash aim image goes Confirm leg dev t → AreDone t.legs.items
     → leg.end ≡ Done
-session_done confirms layout flash leg dev t false halts ends done =
+session_done confirms layout flash aim image leg dev t false halts ends done =
     (subst AreDone ends.legs_are done).0
-session_done confirms layout flash leg dev t true goes ends done =
+session_done confirms layout flash aim image leg dev t true goes ends done =
     done_is leg.end (second_true (wants_boot Confirm) (is_done leg.end) goes)
 
 -- an update may begin so, with this aim, and its script makes no step
@@ -152,7 +153,7 @@ module _ (shown : ShowsNone) (o : Opening) (driver tear : ℕ) (aim : Aim) (belo
       → IsByFiles o.layout aim o.image o.flash tear s
   by_files_of s sweep =
       let trial = sweep.update.trial in
-      let end = session_done (Confirms o driver) o.layout o.flash trial.session.leg
+      let end = session_done (Confirms o driver) o.layout o.flash aim o.image trial.session.leg
       trial.session.dev sweep.whole (wants_boot Confirm && is_done trial.session.leg.end) refl
       trial.behind sweep.done in
       let done : whole ≡ Done =
@@ -213,7 +214,7 @@ cut_by_files shown flash image text options o t k sound is silent status =
     })
     (omega (arith, few)) options.upto t
     (subst (λ (f : List ℕ). IsTrial (Writes o options.driver is.aim dev)
-    (Confirms o options.driver) o.layout f options.upto t) back is.trial)
+    (Confirms o options.driver) o.layout f is.aim o.image options.upto t) back is.trial)
     (same_end t.legs.items ∙ cut_by_status (last_end t.legs.items) k status)
     ∙ ap (λ n. cut_flash o.layout is.aim o.image dev.inner.bytes n k) is.fresh.tear
     ∙ ap (λ (f : List ℕ). cut_flash o.layout is.aim o.image f options.tear k) is.fresh.bytes

@@ -432,7 +432,7 @@ module _ (shown : ShowsNone) (rows : List Row) (script : List Action) (driver : 
 
         behind_boot : (upto : Upto) (t : Trial) (goes : Bool)
             → (wants_confirm upto && is_done leg.end) ≡ goes
-            → BehindBoot confirms layout first goes (ran.leg ∷ leg ∷ []) dev t
+            → BehindBoot confirms layout first aim image goes (ran.leg ∷ leg ∷ []) dev t
             → last_end Done t.legs.items ≡ Cut k
             → t.flash.items ≡ cut_flash layout aim image first old.tear k
         behind_boot upto t false halts ends end =
@@ -446,7 +446,7 @@ module _ (shown : ShowsNone) (rows : List Row) (script : List Action) (driver : 
 
     behind_session : (upto : Upto) (t : Trial) (goes : Bool)
         → (wants_boot upto && is_done ran.leg.end) ≡ goes
-        → BehindSession confirms layout first goes upto ran.leg ran.dev t
+        → BehindSession confirms layout first aim image goes upto ran.leg ran.dev t
         → last_end Done t.legs.items ≡ Cut k
         → t.flash.items ≡ cut_flash layout aim image first old.tear k
     behind_session upto t false halts ends end =
@@ -460,7 +460,7 @@ module _ (shown : ShowsNone) (rows : List Row) (script : List Action) (driver : 
   -- an update that ends with a cut in step k leaves the flash of its steps whose k-th is torn
   pub trial_cut : (upto : Upto) (t : Trial)
       → IsTrial (λ ran. IsDuoSession rows script driver layout aim image old ran) confirms layout
-      first upto t
+      first aim image upto t
       → last_end Done t.legs.items ≡ Cut k
       → t.flash.items ≡ cut_flash layout aim image first old.tear k
   trial_cut upto t trial end =

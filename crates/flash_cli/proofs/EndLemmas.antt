@@ -5,6 +5,7 @@ use Rattle.std.specs.Prelude.{◌&&◌, nat_le, nat_lt, if◌then◌else◌}
 use Rattle.std.proofs.lemmas.Bool.Decides.{nat_tests}
 use Rattle.nor_device.specs.Ram.{Ram}
 use Rattle.crash_images.specs.Cut.{CutDevice, IsAhead, NotBoth, restarted, unspent_of}
+use Rattle.boot_run.specs.declared.aims.Aim.{Aim}
 use Rattle.power_cut.specs.declared.legs.Leg.{Leg}
 use Rattle.power_cut.specs.declared.legs.LegEnd.{LegEnd}
 use Rattle.power_cut.specs.declared.legs.LegEnd.TheVariants.{Done, Device, Cut, FirstByte, Empty, Bad}
@@ -136,15 +137,15 @@ second_true true b is = is
 second_true false b is = absurd (cc)
 
 -- behind the boot
-behind_boot : (o : Opening) (driver : ℕ) (cut fail : Option ℕ) (b : Bool) (s l : Leg)
+behind_boot : (o : Opening) (aim : Aim) (driver : ℕ) (cut fail : Option ℕ) (b : Bool) (s l : Leg)
     (dev : CutDevice Ram) (t : Trial) → NotBoth cut fail → (b ≡ true → l.end ≡ Done)
     → Leads cut fail (s.steps + l.steps) Done dev l.end
-    → BehindBoot (Confirms o driver) o.layout o.flash b (s ∷ l ∷ []) dev t
+    → BehindBoot (Confirms o driver) o.layout o.flash aim o.image b (s ∷ l ∷ []) dev t
     → last_end t.legs.items ≡ chosen_end cut fail (steps_in t.legs.items) Done
-behind_boot o driver cut fail false s l dev t one done led ends =
+behind_boot o aim driver cut fail false s l dev t one done led ends =
     let total : s.steps + (l.steps + 0) ≡ s.steps + l.steps = omega arith in
     rw (ends.legs_are, total) led.ends
-behind_boot o driver cut fail true s l dev t one done led ends =
+behind_boot o aim driver cut fail true s l dev t one done led ends =
     let c = ends.ran.leg in
     let more = leads cut fail (s.steps + l.steps) dev ends.ran.dev Done c one led.chooses
     ends.confirmed.leg.ran_is in
@@ -152,33 +153,33 @@ behind_boot o driver cut fail true s l dev t one done led ends =
     rw (ends.ends.legs_are, total) more.ends
 
 -- behind the session
-behind_session : (o : Opening) (driver : ℕ) (cut fail : Option ℕ) (whole : LegEnd) (b : Bool)
-    (upto : Upto) (s : Leg) (dev : CutDevice Ram) (t : Trial) → NotBoth cut fail
+behind_session : (o : Opening) (aim : Aim) (driver : ℕ) (cut fail : Option ℕ) (whole : LegEnd)
+    (b : Bool) (upto : Upto) (s : Leg) (dev : CutDevice Ram) (t : Trial) → NotBoth cut fail
     → (b ≡ true → s.end ≡ Done) → Leads cut fail s.steps whole dev s.end
-    → BehindSession (Confirms o driver) o.layout o.flash b upto s dev t
+    → BehindSession (Confirms o driver) o.layout o.flash aim o.image b upto s dev t
     → last_end t.legs.items ≡ chosen_end cut fail (steps_in t.legs.items) whole
-behind_session o driver cut fail whole false upto s dev t one done led ends =
+behind_session o aim driver cut fail whole false upto s dev t one done led ends =
     let total : s.steps + 0 ≡ s.steps = omega arith in
     rw (ends.legs_are, total) led.ends
-behind_session o driver cut fail whole true upto s dev t one done led ends =
+behind_session o aim driver cut fail whole true upto s dev t one done led ends =
     let sound = done refl in
     let next = leads cut fail s.steps (restarted dev) ends.new Done ends.leg one
     (again cut fail s.steps whole dev s.end led sound) ends.booted.ran in
     rw ((led.ahead sound).1.1)
-    (behind_boot o driver cut fail _ s ends.leg ends.new t one
+    (behind_boot o aim driver cut fail _ s ends.leg ends.new t one
     (λ both. done_is ends.leg.end (second_true (wants_confirm upto) (is_done ends.leg.end) both)) next
     ends.behind)
 
 -- an update
-pub update_ends : (o : Opening) (driver : ℕ) (cut fail : Option ℕ) (whole : LegEnd) (upto : Upto)
-    (dev : CutDevice Ram) (session : Ran) (t : Trial) → NotBoth cut fail
+pub update_ends : (o : Opening) (aim : Aim) (driver : ℕ) (cut fail : Option ℕ) (whole : LegEnd)
+    (upto : Upto) (dev : CutDevice Ram) (session : Ran) (t : Trial) → NotBoth cut fail
     → dev.cut ≡ cut → dev.fail ≡ fail → dev.steps ≡ 0 → IsRan dev session.dev whole session.leg
-    → BehindSession (Confirms o driver) o.layout o.flash
+    → BehindSession (Confirms o driver) o.layout o.flash aim o.image
     (wants_boot upto && is_done session.leg.end) upto session.leg session.dev t
     → last_end t.legs.items ≡ chosen_end cut fail (steps_in t.legs.items) whole
-update_ends o driver cut fail whole upto dev session t one cut_is fail_is fresh ran behind =
+update_ends o aim driver cut fail whole upto dev session t one cut_is fail_is fresh ran behind =
     let first : 0 + session.leg.steps ≡ session.leg.steps = omega arith in
-    behind_session o driver cut fail whole _ upto session.leg session.dev t one
+    behind_session o aim driver cut fail whole _ upto session.leg session.dev t one
     (λ both. done_is session.leg.end (second_true (wants_boot upto) (is_done session.leg.end) both))
     (subst (λ n. Leads cut fail n whole session.dev session.leg.end) first
     (leads cut fail 0 dev session.dev whole session.leg one

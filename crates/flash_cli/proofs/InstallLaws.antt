@@ -27,26 +27,26 @@ use Rattle.flash_cli.proofs.OutcomeLemmas.{comes_only}
 
 -- ---- an update whose last leg was made whole was made whole
 
-done_behind_boot : (o : Opening) (driver : ℕ) (b : Bool) (s l : Leg) (dev : CutDevice Ram)
-    (t : Trial) → s.end ≡ DoneEnd → (b ≡ true → l.end ≡ DoneEnd)
-    → BehindBoot (Confirms o driver) o.layout o.flash b (s ∷ l ∷ []) dev t
+done_behind_boot : (o : Opening) (aim : Aim) (driver : ℕ) (b : Bool) (s l : Leg)
+    (dev : CutDevice Ram) (t : Trial) → s.end ≡ DoneEnd → (b ≡ true → l.end ≡ DoneEnd)
+    → BehindBoot (Confirms o driver) o.layout o.flash aim o.image b (s ∷ l ∷ []) dev t
     → last_end t.legs.items ≡ DoneEnd → AreDone t.legs.items
-done_behind_boot o driver false s l dev t before test ends last =
+done_behind_boot o aim driver false s l dev t before test ends last =
     let this : l.end ≡ DoneEnd = sym (ap last_end ends.legs_are) ∙ last in
     subst AreDone (sym ends.legs_are) (before, (this, tt))
-done_behind_boot o driver true s l dev t before test ends last =
+done_behind_boot o aim driver true s l dev t before test ends last =
     let this : ends.ran.leg.end ≡ DoneEnd = sym (ap last_end ends.ends.legs_are) ∙ last in
     subst AreDone (sym ends.ends.legs_are) (before, (test refl, (this, tt)))
 
-done_behind_session : (o : Opening) (driver : ℕ) (b : Bool) (upto : Upto) (s : Leg)
+done_behind_session : (o : Opening) (aim : Aim) (driver : ℕ) (b : Bool) (upto : Upto) (s : Leg)
     (dev : CutDevice Ram) (t : Trial) → (b ≡ true → s.end ≡ DoneEnd)
-    → BehindSession (Confirms o driver) o.layout o.flash b upto s dev t
+    → BehindSession (Confirms o driver) o.layout o.flash aim o.image b upto s dev t
     → last_end t.legs.items ≡ DoneEnd → AreDone t.legs.items
-done_behind_session o driver false upto s dev t test ends last =
+done_behind_session o aim driver false upto s dev t test ends last =
     let this : s.end ≡ DoneEnd = sym (ap last_end ends.legs_are) ∙ last in
     subst AreDone (sym ends.legs_are) (this, tt)
-done_behind_session o driver true upto s dev t test ends last =
-    done_behind_boot o driver _ s ends.leg ends.new t (test refl)
+done_behind_session o aim driver true upto s dev t test ends last =
+    done_behind_boot o aim driver _ s ends.leg ends.new t (test refl)
     (λ both. done_is ends.leg.end (second_true (wants_confirm upto) (is_done ends.leg.end) both))
     ends.behind last
 
@@ -54,7 +54,7 @@ all_done : (u : Update) (o : Opening) (t : Trial) → IsUpdate u.options o t
     → last_end t.legs.items ≡ DoneEnd → AreDone t.legs.items
 all_done u o t is last =
     let leg = is.trial.session.leg in
-    done_behind_session o u.options.driver _ u.options.upto leg is.trial.session.dev t
+    done_behind_session o is.aim u.options.driver _ u.options.upto leg is.trial.session.dev t
     (λ both. done_is leg.end (second_true (wants_boot u.options.upto) (is_done leg.end) both))
     is.trial.behind last
 

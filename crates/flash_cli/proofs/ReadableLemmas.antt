@@ -19,6 +19,7 @@ use Rattle.bus_hub.specs.Hub.{Hub, begun}
 use Rattle.bus_hub.specs.Room.{Kept}
 use Rattle.bus_hub.proofs.Logs.{kept}
 use Rattle.mmu_map.specs.Map.{Map}
+use Rattle.boot_run.specs.declared.aims.Aim.{Aim}
 use Rattle.power_cut.specs.declared.outcome.Trial.{Trial}
 use Rattle.power_cut.specs.declared.legs.Leg.{Leg}
 use Rattle.power_cut.specs.declared.legs.Upto.{Upto}
@@ -111,21 +112,21 @@ leg_readable h base left right stands =
     (change_inside base.setting) (begun base) stands.stood.log stands.stood.ruled tt)
 
 -- the journal of a confirmation, where there is one
-behind_boot : (o : Opening) (driver : ℕ) (b : Bool) (legs : List Leg) (dev : CutDevice Ram)
-    (t : Trial) → BehindBoot (Confirms o driver) o.layout o.flash b legs dev t
+behind_boot : (o : Opening) (aim : Aim) (driver : ℕ) (b : Bool) (legs : List Leg)
+    (dev : CutDevice Ram) (t : Trial) → BehindBoot (Confirms o driver) o.layout o.flash aim o.image b legs dev t
     → IsReadable t.confirm
-behind_boot o driver false legs dev t ends = rw ends.confirm_is tt
-behind_boot o driver true legs dev t ends =
+behind_boot o aim driver false legs dev t ends = rw ends.confirm_is tt
+behind_boot o aim driver true legs dev t ends =
     let leg = ends.confirmed.leg.leg in
     rw ends.ends.confirm_is (leg_readable _ leg.base leg.left leg.right leg.stands)
 
-behind_session : (o : Opening) (driver : ℕ) (b : Bool) (upto : Upto) (session : Leg)
+behind_session : (o : Opening) (aim : Aim) (driver : ℕ) (b : Bool) (upto : Upto) (session : Leg)
     (dev : CutDevice Ram) (t : Trial)
-    → BehindSession (Confirms o driver) o.layout o.flash b upto session dev t
+    → BehindSession (Confirms o driver) o.layout o.flash aim o.image b upto session dev t
     → IsReadable t.confirm
-behind_session o driver false upto session dev t ends = rw ends.confirm_is tt
-behind_session o driver true upto session dev t ends =
-    behind_boot o driver _ _ ends.new t ends.behind
+behind_session o aim driver false upto session dev t ends = rw ends.confirm_is tt
+behind_session o aim driver true upto session dev t ends =
+    behind_boot o aim driver _ _ ends.new t ends.behind
 
 -- both journals of an update
 pub session_readable : (options : Options) (o : Opening) (t : Trial) → IsUpdate options o t
@@ -137,4 +138,4 @@ session_readable options o t update =
 pub confirm_readable : (options : Options) (o : Opening) (t : Trial) → IsUpdate options o t
     → IsReadable t.confirm
 confirm_readable options o t update =
-    behind_session o options.driver _ options.upto _ _ t update.trial.behind
+    behind_session o update.aim options.driver _ options.upto _ _ t update.trial.behind

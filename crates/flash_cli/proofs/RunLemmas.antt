@@ -65,7 +65,8 @@ opening_on flash image o = record {
 pub record IsMadeBy (options : Options) (o : CodeOpening) (image : List ℕ) (dev : CutDevice Ram)
     (t : Trial) : Type 0 where
   pub trial : IsTrial (Writes (opening_with image o) options.driver o.aim dev)
-      (Confirms (opening_with image o) options.driver) o.layout dev.inner.bytes options.upto t
+      (Confirms (opening_with image o) options.driver) o.layout dev.inner.bytes o.aim image
+      options.upto t
   pub boots : BootsEither o.layout dev.inner.bytes o.aim image t.flash.items
   pub after : IsBoot o.layout (images_in held o.layout t.flash.items)
       (entries_in o.layout t.flash.items) (Some t.after)
@@ -117,8 +118,8 @@ module _ (shown : ShowsNone) (options : Options) (o : CodeOpening) (image : List
       → IsUpdate options (opening_with image o) t
   made_update t made =
       let whole = session_end (slot_size o.layout o.aim.slot) image in
-      let reached = update_ends (opening_on dev.inner.bytes image o) options.driver options.cut
-      options.fail whole options.upto dev made.trial.session t sound.one fresh.cut fresh.fail
+      let reached = update_ends (opening_on dev.inner.bytes image o) o.aim options.driver
+      options.cut options.fail whole options.upto dev made.trial.session t sound.one fresh.cut fresh.fail
       fresh.steps made.trial.written.leg.ran_is made.trial.behind in
       let many = counted t made in
       let is : IsUpdate options (opening_on dev.inner.bytes image o) t = record {
@@ -128,6 +129,7 @@ module _ (shown : ShowsNone) (options : Options) (o : CodeOpening) (image : List
         device = dev;
         fresh = subst (λ bytes. IsFresh options bytes dev) (sym fresh.bytes) fresh;
         trial = made.trial;
+        apart = apart o.table o.script options.driver o.layout o.aim image dev table laid starts;
         ends = reached
             ∙ count_end options.cut options.fail (steps_in t.legs.items)
             (update_count o.layout o.aim image (worker_steps o.table o.script) options.upto
@@ -152,7 +154,8 @@ module _ (shown : ShowsNone) (options : Options) (o : CodeOpening) (image : List
 pub made_by : {E : Type 0} (options : Options) (o : CodeOpening) (image : List ℕ)
     (dev : CutDevice Ram) (r : Result Trial E)
     → IfOk r (λ t. IsTrial (Writes (opening_with image o) options.driver o.aim dev)
-    (Confirms (opening_with image o) options.driver) o.layout dev.inner.bytes options.upto t)
+    (Confirms (opening_with image o) options.driver) o.layout dev.inner.bytes o.aim image
+    options.upto t)
     → IfOk r (λ t. BootsEither o.layout dev.inner.bytes o.aim image t.flash.items)
     → IfOk r (λ t. IsBoot o.layout (images_in held o.layout t.flash.items)
     (entries_in o.layout t.flash.items) (Some t.after))

@@ -71,8 +71,8 @@ pub record IsStarted (o : Opening) (driver : ℕ) (aim : Aim) (cut : Option ℕ)
   pub opens : Opens o.layout dev.inner.bytes aim o.image
   pub chooses : Chooses cut None 0 dev
   pub short : length (driver_steps o.layout aim o.image) ≤ 2 ^ 40
-  pub trial : IsTrial (Writes o driver aim dev) (Confirms o driver) o.layout dev.inner.bytes Confirm
-      t
+  pub trial : IsTrial (Writes o driver aim dev) (Confirms o driver) o.layout dev.inner.bytes aim
+      o.image Confirm t
 
 module _ (o : Opening) (driver tear : ℕ) (aim : Aim) (may : IsCountable o aim) where
   pub started : (cut : Option ℕ) (t : Trial) → (u : IsSweptUpdate o driver tear aim cut t)
@@ -93,8 +93,8 @@ module _ (o : Opening) (driver tear : ℕ) (aim : Aim) (may : IsCountable o aim)
         short = (let few = update_few o.layout u.dev.inner.bytes aim o.image opens table.size in
             omega (arith, few));
         trial = subst (λ (f : List ℕ).
-            IsTrial (Writes o driver aim u.dev) (Confirms o driver) o.layout f Confirm t) back
-            u.trial;
+            IsTrial (Writes o driver aim u.dev) (Confirms o driver) o.layout f aim o.image Confirm t)
+            back u.trial;
       }
 
   module _ (shown : ShowsNone) (below : driver < 2) where

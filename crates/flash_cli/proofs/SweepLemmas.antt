@@ -55,12 +55,13 @@ module _ (writes so_writes : CutDevice Ram → Ran → Type 0)
     (confirmed : (dev : CutDevice Ram) (at : Bor Booted) (write : Bor Rewrite) (ran : Ran)
     → confirms dev at write ran → so_confirms dev at write ran)
     (layout : Places) (flash : List ℕ) (tear : ℕ) (aim : Aim) (image : List ℕ) where
-  update_by : (cut : Option ℕ) (t : Trial) → IsUpdateOf writes confirms layout flash tear cut t
-      → IsUpdateOf so_writes so_confirms layout flash tear cut t
+  update_by : (cut : Option ℕ) (t : Trial)
+      → IsUpdateOf writes confirms layout flash tear aim image cut t
+      → IsUpdateOf so_writes so_confirms layout flash tear aim image cut t
   update_by cut t update = record {
     dev = update.dev;
     fresh = update.fresh;
-    trial = trial_by confirms so_confirms layout flash
+    trial = trial_by confirms so_confirms layout flash aim image
         (λ dev at write ran may is. confirmed dev at write ran is) (writes update.dev)
         (so_writes update.dev) Confirm t (written update.dev) update.trial;
     end = update.end;

@@ -82,14 +82,14 @@ module _ (rows : List Row) (script : List Action) (driver : ℕ) (layout : Place
   pub taken_trial : (upto : Upto) (t : Trial)
       → IsTrial (λ ran. IsDuoSession rows script driver layout aim image old ran)
       (λ dev at write ran. IsDuoConfirm rows script driver layout at.now write.now dev ran) layout
-      old.inner.bytes upto t
+      old.inner.bytes aim image upto t
       → IsTrial (TakenSession layout others aim image work driver old)
       (λ dev at write ran. TakenConfirm layout others write.now work driver dev ran) layout
-      old.inner.bytes upto t
+      old.inner.bytes aim image upto t
   taken_trial upto t trial =
       trial_by (λ dev at write ran. IsDuoConfirm rows script driver layout at.now write.now dev ran)
       (λ dev at write ran. TakenConfirm layout others write.now work driver dev ran) layout
-      old.inner.bytes confirmed
+      old.inner.bytes aim image confirmed
       (λ ran. IsDuoSession rows script driver layout aim image old ran)
       (TakenSession layout others aim image work driver old) upto t
       (λ ran is. session_taken rows script driver (ShowsApp layout aim.running aim.info) layout
@@ -99,7 +99,7 @@ module _ (rows : List Row) (script : List Action) (driver : ℕ) (layout : Place
   pub taken_installs : ShowsNone → driver < 2 → (upto : Upto) (t : Trial)
       → IsTrial (λ ran. IsDuoSession rows script driver layout aim image old ran)
       (λ dev at write ran. IsDuoConfirm rows script driver layout at.now write.now dev ran) layout
-      old.inner.bytes upto t
+      old.inner.bytes aim image upto t
       → AreDone t.legs.items
       → t.flash.items ≡ installed_flash layout aim image work upto old.inner.bytes
   taken_installs shown below upto t trial done =

@@ -52,7 +52,7 @@ sweep_reading s =
 -- power goes off in the step of this number, where one is given, by this tear number
 abbrev pub IsSweptUpdate : Opening → ℕ → ℕ → Aim → Option ℕ → Trial → Type 0
 IsSweptUpdate o driver tear aim cut t =
-    IsUpdateOf (Writes o driver aim) (Confirms o driver) o.layout o.flash tear cut t
+    IsUpdateOf (Writes o driver aim) (Confirms o driver) o.layout o.flash tear aim o.image cut t
 
 -- how many steps such an update has, by its files
 abbrev pub sweep_count : Opening → Aim → ℕ

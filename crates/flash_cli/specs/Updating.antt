@@ -8,6 +8,8 @@ use Rattle.boot_run.specs.declared.aims.Aim.{Aim}
 use Rattle.boot_run.specs.Booted.{IsBoot}
 use Rattle.pipe_ends.specs.Store.{Files}
 use Rattle.pipe_ends.specs.Sink.{TellsAll, TellsSome}
+use Rattle.flash_steps.specs.Parts.{open_addresses}
+use Rattle.update_steps.specs.Beside.{IsApart}
 use Rattle.power_cut.specs.declared.legs.Leg.{Leg}
 use Rattle.power_cut.specs.declared.legs.LegEnd.{LegEnd}
 use Rattle.power_cut.specs.declared.legs.LegEnd.TheVariants.{Done as DoneEnd, Device, Cut, FirstByte as FirstByteEnd, Empty as EmptyEnd, Bad}
@@ -64,17 +66,18 @@ chosen_end None (Some k) steps whole = if nat_le k steps then Device k else whol
 chosen_end None None steps whole = whole
 
 -- an update with these options that began so: the session, the boot and the confirmation of a
--- device with the flash, as far as they go. It has as many steps as the files and the words give,
--- and ends in the chosen one where there are so many, which is where that was begun; what boots of
--- the flash that is left; and where all legs were made whole, this flash is a function of the files
--- and the words
+-- device with the flash, as far as they go, beside a core that writes to nothing that a boot reads.
+-- It has as many steps as the files and the words give, and ends in the chosen one where there are
+-- so many, which is where that was begun; what boots of the flash that is left; and where all legs
+-- were made whole, this flash is a function of the files and the words
 pub record IsUpdate (options : Options) (o : Opening) (t : Trial) : Type 0 where
   pub aim : Aim
   pub aims : AimsIn o.flash o.layout (length o.image) aim
   pub device : CutDevice Ram
   pub fresh : IsFresh options o.flash device
   pub trial : IsTrial (Writes o options.driver aim device) (Confirms o options.driver) o.layout
-      o.flash options.upto t
+      o.flash aim o.image options.upto t
+  pub apart : IsApart o.layout (open_addresses o.rows)
   pub ends : last_end t.legs.items
       ≡ chosen_end options.cut options.fail (count_of options o aim)
       (session_end (slot_size o.layout aim.slot) o.image)

@@ -87,7 +87,7 @@ fn run_legs<P: Pace + Sync, R: Threads + Wait + Sync>(
         image.now device ran)
         (λ d at write ran. IsDuoConfirm duo.now.table.now duo.now.script.now duo.now.driver
         layout.now at.now write.now d ran)
-        layout.now device.inner.bytes upto t) }
+        layout.now device.inner.bytes aim.now image.now upto t) }
     ensures boots { IfOk result (λ t.
         BootsEither layout.now device.inner.bytes aim.now image.now t.flash.items) }
     ensures after { IfOk result (λ t. IsBoot layout.now (images_in held layout.now t.flash.items)

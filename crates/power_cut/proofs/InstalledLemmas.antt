@@ -222,7 +222,8 @@ module _ (shown : ShowsNone) (layout : Places) (aim : Aim) (image : List ℕ) (o
       → made share ≡ rewrite layout.otadata write)
       (worked : (share : List Did) → works (Ok tt) share → made share ≡ work) where
     -- an update whose legs are all made whole leaves the flash of its lists of steps
-    pub trial_installs : (upto : Upto) (t : Trial) → IsTrial writes confirms layout first upto t
+    pub trial_installs : (upto : Upto) (t : Trial)
+        → IsTrial writes confirms layout first aim image upto t
         → AreDone t.legs.items
         → t.flash.items ≡ installed_flash layout aim image work upto first
     trial_installs upto t trial done =
@@ -267,15 +268,15 @@ module _ (shown : ShowsNone) (layout : Places) (aim : Aim) (image : List ℕ) (o
         alone legs ends = subst AreDone ends.legs_are done
 
         behind : (u : Upto)
-            → BehindSession confirms layout first (wants_boot u && is_done ran.leg.end) u ran.leg
-            ran.dev t
+            → BehindSession confirms layout first aim image (wants_boot u && is_done ran.leg.end) u
+            ran.leg ran.dev t
             → t.flash.items ≡ installed_flash layout aim image work u first
         behind Session ends =
             ends.flash_is ∙ leaves (alone (ran.leg ∷ []) ends).0
         behind Boot later = boot_case (is_done ran.leg.end) refl later
           where
             boot_case : (b : Bool) → is_done ran.leg.end ≡ b
-                → BehindSession confirms layout first b Boot ran.leg ran.dev t
+                → BehindSession confirms layout first aim image b Boot ran.leg ran.dev t
                 → t.flash.items ≡ installed_flash layout aim image work Boot first
             boot_case false halts ends =
                 absurd (let e = ap is_done (alone (ran.leg ∷ []) ends).0 in cc)
@@ -284,10 +285,10 @@ module _ (shown : ShowsNone) (layout : Places) (aim : Aim) (image : List ℕ) (o
                 ends.behind.flash_is ∙ booted ends.new ends.leg legs.0 legs.1.0 ends.booted
         behind Confirm later = confirm_case (is_done ran.leg.end) refl later
           where
-            last_case : (ends : EndsBooted confirms layout first Confirm ran.leg ran.dev t)
-                (b : Bool)
+            last_case : (ends : EndsBooted confirms layout first aim image Confirm ran.leg
+                ran.dev t) (b : Bool)
                 → is_done ends.leg.end ≡ b
-                → BehindBoot confirms layout first b (ran.leg ∷ ends.leg ∷ []) ends.new t
+                → BehindBoot confirms layout first aim image b (ran.leg ∷ ends.leg ∷ []) ends.new t
                 → t.flash.items ≡ installed_flash layout aim image work Confirm first
             last_case ends false halts stops =
                 absurd (let legs = subst AreDone stops.legs_are done in
@@ -305,7 +306,7 @@ module _ (shown : ShowsNone) (layout : Places) (aim : Aim) (image : List ℕ) (o
                 (booted ends.new ends.leg legs.0 legs.1.0 ends.booted)
 
             confirm_case : (b : Bool) → is_done ran.leg.end ≡ b
-                → BehindSession confirms layout first b Confirm ran.leg ran.dev t
+                → BehindSession confirms layout first aim image b Confirm ran.leg ran.dev t
                 → t.flash.items ≡ installed_flash layout aim image work Confirm first
             confirm_case false halts ends =
                 absurd (let e = ap is_done (alone (ran.leg ∷ []) ends).0 in cc)

@@ -112,7 +112,8 @@ module _ (begins : CutDevice Ram → Type 0) (writes : CutDevice Ram → Ran →
 
   -- the flash that is left agrees with the one at the begin where no step changes it
   pub beside_kept : (cut : Option ℕ) (t : Trial) → IsPlaced layout (length flash)
-      → IsUpdateOf writes confirms layout flash tear cut t → Agrees Stays flash t.flash.items
+      → IsUpdateOf writes confirms layout flash tear aim image cut t
+      → Agrees Stays flash t.flash.items
   beside_kept cut t placed u = at (is_done session.leg.end) u.trial.behind
     where
       session : Ran
@@ -129,7 +130,8 @@ module _ (begins : CutDevice Ram → Type 0) (writes : CutDevice Ram → Ran →
           subst (λ (f : List ℕ). Agrees Stays flash f) (sym ends.flash_is) agrees
 
       booted : (b : Bool) (legs : List Leg) (dev : CutDevice Ram)
-          → Agrees Stays flash dev.inner.bytes → BehindBoot confirms layout flash b legs dev t
+          → Agrees Stays flash dev.inner.bytes
+          → BehindBoot confirms layout flash aim image b legs dev t
           → Agrees Stays flash t.flash.items
       booted false legs dev agrees ends = ended legs None dev ends agrees
       booted true legs dev agrees ends =
@@ -137,7 +139,8 @@ module _ (begins : CutDevice Ram → Type 0) (writes : CutDevice Ram → Ran →
           (agrees_twice Stays flash dev.inner.bytes ends.ran.dev.inner.bytes agrees
           (may.confirmed_beside dev ends.at ends.write ends.ran ends.may ends.confirmed))
 
-      at : (b : Bool) → BehindSession confirms layout flash b Confirm session.leg session.dev t
+      at : (b : Bool)
+          → BehindSession confirms layout flash aim image b Confirm session.leg session.dev t
           → Agrees Stays flash t.flash.items
       at false ends = ended (session.leg ∷ []) None session.dev ends first
       at true ends =
@@ -147,7 +150,7 @@ module _ (begins : CutDevice Ram → Type 0) (writes : CutDevice Ram → Ran →
           placed ends.booted)) ends.behind
 
   -- an update that is not cut is made whole, or its session is not, by what its bytes show
-  uncut : (t : Trial) → IsUpdateOf writes confirms layout flash tear None t
+  uncut : (t : Trial) → IsUpdateOf writes confirms layout flash tear aim image None t
       → IsWhole wanted t.legs.items ⊎ IsSession wanted t.legs.items
   uncut t u = at (cases_Bool (is_done session.leg.end))
     where
@@ -179,7 +182,7 @@ module _ (begins : CutDevice Ram → Type 0) (writes : CutDevice Ram → Ran →
 
       confirmed : (leg : Leg) (new : CutDevice Ram) → session.leg.end ≡ Done → leg.end ≡ Done
           → new.cut ≡ None → new.fail ≡ None
-          → EndsConfirmed confirms layout flash (session.leg ∷ leg ∷ []) new t
+          → EndsConfirmed confirms layout flash aim image (session.leg ∷ leg ∷ []) new t
           → AreDone t.legs.items
       confirmed leg new session_done leg_done cut fail ends =
           let kept = may.confirmed new ends.at ends.write ends.ran ends.may ends.confirmed in
@@ -191,7 +194,8 @@ module _ (begins : CutDevice Ram → Type 0) (writes : CutDevice Ram → Ran →
             ),
           )
 
-      booted : session.leg.end ≡ Done → EndsBooted confirms layout flash Confirm session.leg session.dev t
+      booted : session.leg.end ≡ Done
+          → EndsBooted confirms layout flash aim image Confirm session.leg session.dev t
           → AreDone t.legs.items
       booted session_done ends =
           let leg_done : ends.leg.end ≡ Done =
@@ -200,22 +204,22 @@ module _ (begins : CutDevice Ram → Type 0) (writes : CutDevice Ram → Ran →
           confirmed ends.leg ends.new session_done leg_done
           (ap (λ (s : CutSetting (Unit {0})). s.cut) ends.booted.ran.setting ∙ cut_on)
           (ap (λ (s : CutSetting (Unit {0})). s.fail) ends.booted.ran.setting ∙ fail_on)
-          (subst (λ b. BehindBoot confirms layout flash b (session.leg ∷ ends.leg ∷ []) ends.new t)
-          (ap is_done leg_done) ends.behind)
+          (subst (λ b. BehindBoot confirms layout flash aim image b (session.leg ∷ ends.leg ∷ [])
+          ends.new t) (ap is_done leg_done) ends.behind)
 
       at : (is_done session.leg.end ≡ true) ⊎ (is_done session.leg.end ≡ false)
           → IsWhole wanted t.legs.items ⊎ IsSession wanted t.legs.items
       at (inl p) =
           let done = done_is session.leg.end p in
           inl (record {
-            done = booted done (subst (λ b. BehindSession confirms layout flash b Confirm session.leg
-                session.dev t) p u.trial.behind);
+            done = booted done (subst (λ b. BehindSession confirms layout flash aim image b Confirm
+                session.leg session.dev t) p u.trial.behind);
             session = sym end_is ∙ done;
           })
       at (inr p) =
           let ends : EndsWith (session.leg ∷ []) None session.dev t =
-          subst (λ b. BehindSession confirms layout flash b Confirm session.leg session.dev t) p
-          u.trial.behind in
+          subst (λ b. BehindSession confirms layout flash aim image b Confirm session.leg
+          session.dev t) p u.trial.behind in
           inr (record {
             leg = session.leg;
             only = ends.legs_are;
@@ -224,7 +228,7 @@ module _ (begins : CutDevice Ram → Type 0) (writes : CutDevice Ram → Ran →
           })
 
   -- where no session was refused, the update was made whole
-  pub uncut_done : (t : Trial) → IsUpdateOf writes confirms layout flash tear None t
+  pub uncut_done : (t : Trial) → IsUpdateOf writes confirms layout flash tear aim image None t
       → refusal_in t.legs.items ≡ None → AreDone t.legs.items × (wanted ≡ Done)
   uncut_done t u none = at (uncut t u)
     where
@@ -237,7 +241,8 @@ module _ (begins : CutDevice Ram → Type 0) (writes : CutDevice Ram → Ran →
 
   -- else it was its session alone
   pub uncut_refused : (t : Trial) (end : LegEnd)
-      → IsUpdateOf writes confirms layout flash tear None t → refusal_in t.legs.items ≡ Some end
+      → IsUpdateOf writes confirms layout flash tear aim image None t
+      → refusal_in t.legs.items ≡ Some end
       → IsRefused writes confirms layout flash tear aim image end
   uncut_refused t end u some = at (uncut t u)
     where
@@ -283,12 +288,13 @@ module _ (writes : CutDevice Ram → Ran → Type 0)
     (flash : List ℕ) (tear : ℕ) (aim : Aim) (image : List ℕ) where
   -- a trial of a fresh device is an update of its flash
   pub update_is : (cut : Option ℕ) (dev : CutDevice Ram) (t : Trial) → IsFresh flash cut tear dev
-      → IsTrial (writes dev) confirms layout dev.inner.bytes Confirm t
-      → EndsAsChosen dev t.legs.items → IsUpdateOf writes confirms layout flash tear cut t
+      → IsTrial (writes dev) confirms layout dev.inner.bytes aim image Confirm t
+      → EndsAsChosen dev t.legs.items → IsUpdateOf writes confirms layout flash tear aim image cut t
   update_is cut dev t fresh trial end = record {
     dev = dev;
     fresh = fresh;
-    trial = subst (λ f. IsTrial (writes dev) confirms layout f Confirm t) fresh.bytes trial;
+    trial = subst (λ f. IsTrial (writes dev) confirms layout f aim image Confirm t) fresh.bytes
+        trial;
     end = end;
   }
 

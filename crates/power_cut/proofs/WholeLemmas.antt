@@ -37,7 +37,7 @@ use Rattle.power_cut.specs.declared.outcome.Trial.{Trial}
 use Rattle.power_cut.specs.Device.{HasEnd, IsReady, IsWholeEnd, running_in}
 use Rattle.power_cut.specs.Update.{BootsEither, Opens, sealed_end, session_end, slot_size}
 use Rattle.power_cut.specs.Kept.{IsStarted, KeepsConfirm, KeepsSession, MayConfirm}
-use Rattle.power_cut.specs.Whole.{AreDone, BehindBoot, BehindSession, BootsNew, EndsAsChosen, EndsWith, HasBooted, IsBootLeg, IsClosed, IsOutcome, boot_steps, confirm_of, is_done, wants_boot, wants_confirm}
+use Rattle.power_cut.specs.Whole.{AreDone, BehindBoot, BehindSession, BootsNew, EndsAsChosen, EndsWith, HasBooted, HoldsBoot, HoldsConfirm, IsBootLeg, IsClosed, IsOutcome, boot_steps, confirm_of, is_done, wants_boot, wants_confirm}
 use Rattle.power_cut.specs.Behind.{IsAnnounced, IsBehind}
 use Rattle.power_cut.proofs.ChosenLemmas.{boot_chosen, confirm_chosen, session_chosen}
 use Rattle.power_cut.proofs.BehindLemmas.{announced_active, announced_boots, announced_writes, behind_boots, behind_some, beside_behind, beside_here, booted_first, booted_waits, confirmed_new, confirming, left_behind, session_announced, two, waiting}
@@ -169,6 +169,14 @@ module _ (shown : ShowsNone) (layout : Places) (aim : Aim) (image : List ℕ) (o
           (omega (arith, opens.stored.sized.label))
           (subst (λ (steps : List Step). LeftAfter mid steps left) steps_are after)
 
+      -- so one of both applications boots at every moment of it
+      pub boot_holds : HoldsBoot layout first aim image mid
+      boot_holds = λ left after.
+          let behind = booted_behind left after in (
+            behind_boots layout first aim image opens left behind,
+            behind_some layout first aim image opens left behind,
+          )
+
       module _ (dev : CutDevice Ram) (leg : Leg) (at : Booted)
           (booted : HasBooted layout (restarted ran.dev) dev leg (Some at)) where
         made_is : dev.inner.bytes
@@ -205,6 +213,18 @@ module _ (shown : ShowsNone) (layout : Places) (aim : Aim) (image : List ℕ) (o
               };
               some = behind_some layout first aim image opens dev.inner.bytes waits.behind;
             })
+
+        -- one of both applications boots at every moment of it
+        pub confirm_holds : (write : Rewrite) → write ≡ confirming layout first aim image opens
+            → HoldsConfirm layout first aim image dev.inner.bytes write
+        confirm_holds write is = λ others left apart holds.
+            behind_boots layout first aim image opens left
+            (beside_behind layout first aim image opens others dev.inner.bytes left write
+            holds.made holds.rest apart waits.behind (ap (λ (w : Rewrite). w.sector) is)
+            (let short = opens.stored.sized.label in
+            let same : length write.entry.label ≡ length aim.next.entry.label =
+            ap (λ (w : Rewrite). length w.entry.label) is in omega (arith, short, same))
+            holds.split holds.stands)
 
         module _ (write : Rewrite) (write_is : write ≡ confirming layout first aim image opens)
             (last : Ran) (kept : KeepsConfirm layout write dev last) where
@@ -262,7 +282,7 @@ module _ (shown : ShowsNone) (layout : Places) (aim : Aim) (image : List ℕ) (o
         session = ran;
         written = written;
         journal = closed.session_is;
-        behind = subst (λ b. BehindSession confirms layout first b upto ran.leg ran.dev t)
+        behind = subst (λ b. BehindSession confirms layout first aim image b upto ran.leg ran.dev t)
             (sym stops)
             (subst (λ (l : List Leg). EndsWith l None ran.dev t) legs_are closed.ends);
       };
@@ -326,14 +346,16 @@ module _ (shown : ShowsNone) (layout : Places) (aim : Aim) (image : List ℕ) (o
               session = ran;
               written = written;
               journal = closed.session_is;
-              behind = subst (λ b. BehindSession confirms layout first b upto ran.leg ran.dev t)
+              behind = subst
+                  (λ b. BehindSession confirms layout first aim image b upto ran.leg ran.dev t)
                   (sym goes) (record {
                     new = dev;
                     leg = leg;
                     booted = subst (λ (d : CutDevice Ram). IsBootLeg layout d dev leg) mid_is
                         boot_is;
-                    behind = subst (λ b. BehindBoot confirms layout first b (ran.leg ∷ leg ∷ [])
-                        dev t) (sym (stops upto booted none has))
+                    moments = boot_holds ran keeps done_here;
+                    behind = subst (λ b. BehindBoot confirms layout first aim image b
+                        (ran.leg ∷ leg ∷ []) dev t) (sym (stops upto booted none has))
                         (subst (λ (l : List Leg). EndsWith l None dev t) legs_are closed.ends);
                   });
             };
@@ -408,14 +430,15 @@ module _ (shown : ShowsNone) (layout : Places) (aim : Aim) (image : List ℕ) (o
                       written = written;
                       journal = closed.session_is;
                       behind = subst
-                          (λ b. BehindSession confirms layout first b upto ran.leg ran.dev t)
-                          (sym goes) (record {
+                          (λ b. BehindSession confirms layout first aim image b upto ran.leg
+                          ran.dev t) (sym goes) (record {
                             new = dev;
                             leg = leg;
                             booted = subst (λ
                                 (d : CutDevice Ram). IsBootLeg layout d dev leg) mid_is
                                 boot_is;
-                            behind = subst (λ b. BehindBoot confirms layout first b
+                            moments = boot_holds ran keeps done_here;
+                            behind = subst (λ b. BehindBoot confirms layout first aim image b
                                 (ran.leg ∷ leg ∷ []) dev t) (sym goes_on) (record {
                                   at = at;
                                   write = of;
@@ -425,6 +448,8 @@ module _ (shown : ShowsNone) (layout : Places) (aim : Aim) (image : List ℕ) (o
                                       (sym of_is) confirm_may);
                                   ran = last;
                                   confirmed = confirmed;
+                                  moments = confirm_holds ran keeps done_here dev leg it whole_boot
+                                      of.now (of_is ∙ write_is);
                                   ends = subst
                                       (λ (l : List Leg). EndsWith l (Some last.journal) last.dev t)
                                       legs_are closed.ends;

@@ -84,51 +84,50 @@ module _ (begins : CutDevice Ram → Type 0) (writes : CutDevice Ram → Ran →
 
 module _ (writes : CutDevice Ram → Ran → Type 0)
     (confirms : CutDevice Ram → Bor Booted → Bor Rewrite → Ran → Type 0) (layout : Places)
-    (flash : List ℕ) (tear : ℕ) where
+    (flash : List ℕ) (tear : ℕ) (aim : Aim) (image : List ℕ) where
   -- an update of a fresh device, up to the confirmation: it ends with a cut exactly where the chosen
   -- step was begun
   pub record IsUpdateOf (cut : Option ℕ) (t : Trial) : Type 0 where
     pub dev : CutDevice Ram
     pub fresh : IsFresh flash cut tear dev
-    pub trial : IsTrial (writes dev) confirms layout flash Confirm t
+    pub trial : IsTrial (writes dev) confirms layout flash aim image Confirm t
     pub end : EndsAsChosen dev t.legs.items
 
-  module _ (aim : Aim) (image : List ℕ) where
-    -- so boots what an update has left whose power is cut in step k: the application that ran or the
-    -- new one, but for a chance match
-    pub record IsCutAt (k : ℕ) (booted : Booted) : Type 0 where
-      pub t : Trial
-      pub update : IsUpdateOf (Some k) t
-      pub after : booted ≡ t.after
-      pub boots : BootsEither layout flash aim image t.flash.items
-      pub shows : IsBoot layout (images_in held layout t.flash.items)
-          (entries_in layout t.flash.items) (Some booted)
+  -- so boots what an update has left whose power is cut in step k: the application that ran or the
+  -- new one, but for a chance match
+  pub record IsCutAt (k : ℕ) (booted : Booted) : Type 0 where
+    pub t : Trial
+    pub update : IsUpdateOf (Some k) t
+    pub after : booted ≡ t.after
+    pub boots : BootsEither layout flash aim image t.flash.items
+    pub shows : IsBoot layout (images_in held layout t.flash.items)
+        (entries_in layout t.flash.items) (Some booted)
 
-    -- for the step k and those behind it, in order
-    abbrev pub AreCutFrom : ℕ → List Booted → Type 0
-    AreCutFrom k [] = Unit {0}
-    AreCutFrom k (booted ∷ more) = IsCutAt k booted × AreCutFrom (suc k) more
+  -- for the step k and those behind it, in order
+  abbrev pub AreCutFrom : ℕ → List Booted → Type 0
+  AreCutFrom k [] = Unit {0}
+  AreCutFrom k (booted ∷ more) = IsCutAt k booted × AreCutFrom (suc k) more
 
-    -- the steps of an update that was made whole, and what boots behind a cut in each of them
-    pub record IsSweep (s : Sweep) : Type 0 where
-      pub whole : Trial
-      pub update : IsUpdateOf None whole
-      pub done : AreDone whole.legs.items
-      pub installed : BootsNew layout aim image whole.flash.items
-      pub steps : s.steps ≡ total_steps whole.legs.items
-      pub places : length s.after.items ≡ s.steps
-      pub cuts : AreCutFrom 1 s.after.items
+  -- the steps of an update that was made whole, and what boots behind a cut in each of them
+  pub record IsSweep (s : Sweep) : Type 0 where
+    pub whole : Trial
+    pub update : IsUpdateOf None whole
+    pub done : AreDone whole.legs.items
+    pub installed : BootsNew layout aim image whole.flash.items
+    pub steps : s.steps ≡ total_steps whole.legs.items
+    pub places : length s.after.items ≡ s.steps
+    pub cuts : AreCutFrom 1 s.after.items
 
-    -- the session of an update that is not cut ends so, by what its bytes show, and is the only leg
-    pub record IsRefused (end : LegEnd) : Type 0 where
-      pub t : Trial
-      pub update : IsUpdateOf None t
-      pub leg : Leg
-      pub only : t.legs.items ≡ leg ∷ []
-      pub end_is : leg.end ≡ end
-      pub session : session_end (slot_size layout aim.slot) image ≡ end
-      pub not_done : is_done end ≡ false
+  -- the session of an update that is not cut ends so, by what its bytes show, and is the only leg
+  pub record IsRefused (end : LegEnd) : Type 0 where
+    pub t : Trial
+    pub update : IsUpdateOf None t
+    pub leg : Leg
+    pub only : t.legs.items ≡ leg ∷ []
+    pub end_is : leg.end ≡ end
+    pub session : session_end (slot_size layout aim.slot) image ≡ end
+    pub not_done : is_done end ≡ false
 
-    abbrev pub IsRefusedBy : SweepNo → Type 0
-    IsRefusedBy (Refused end) = IsRefused end
-    IsRefusedBy Memory = Unit {0}
+  abbrev pub IsRefusedBy : SweepNo → Type 0
+  IsRefusedBy (Refused end) = IsRefused end
+  IsRefusedBy Memory = Unit {0}

@@ -6,6 +6,7 @@ use Rattle.nor_device.specs.declared.nor.NorFault.TheVariants.{Failed, Off}
 use Rattle.nor_device.specs.declared.step.Step.{Step}
 use Rattle.nor_device.specs.Flash.{after_steps}
 use Rattle.nor_device.specs.Ram.{Ram}
+use Rattle.crash_images.specs.Crash.{LeftAfter}
 use Rattle.crash_images.specs.Cut.{CutDevice, restarted}
 use Rattle.partition_table.specs.declared.app.App.TheVariants.{Ota}
 use Rattle.partition_table.specs.Layout.{Places}
@@ -21,6 +22,7 @@ use Rattle.boot_run.specs.Booted.{IsBoot}
 use Rattle.boot_run.specs.Made.{AreMadeBy}
 use Rattle.boot_run.specs.Rewriting.{rewrites}
 use Rattle.boot_run.specs.Verified.{Starts}
+use Rattle.update_steps.specs.Beside.{IsApart}
 use Rattle.power_cut.specs.declared.legs.Leg.{Leg}
 use Rattle.power_cut.specs.declared.legs.LegEnd.{LegEnd}
 use Rattle.power_cut.specs.declared.legs.LegEnd.TheVariants.{Done, Device, Cut, FirstByte, Empty, Bad}
@@ -29,12 +31,26 @@ use Rattle.power_cut.specs.declared.legs.Upto.{Upto}
 use Rattle.power_cut.specs.declared.legs.Upto.TheVariants.{Session, Boot, Confirm}
 use Rattle.power_cut.specs.declared.outcome.Trial.{Trial}
 use Rattle.power_cut.specs.Device.{HasEnd, IsRan, IsReady, MayEnd, MayRefuse, MayTear, MustRefuse, setting_of}
-use Rattle.power_cut.specs.Update.{BootsEither}
+use Rattle.power_cut.specs.Update.{BootsEither, HoldsRewrite}
 use Rattle.power_cut.specs.Kept.{MayConfirm}
 
 -- the steps of a boot of this flash
 abbrev pub boot_steps : Places → List ℕ → List Step
 boot_steps layout flash = rewrites layout.otadata (boot_writes (entries_in layout flash))
+
+-- at every moment of a boot of this flash: of each flash that a loss of power may leave one of both
+-- applications boots, but for chance, seen from the first flash; and some application boots
+abbrev pub HoldsBoot : Places → List ℕ → Aim → List ℕ → List ℕ → Type 0
+HoldsBoot layout first aim image flash =
+    (left : List ℕ) → LeftAfter flash (boot_steps layout flash) left
+    → BootsEither layout first aim image left × (boots_in held layout left ≢ None)
+
+-- so boots, at every moment of a confirmation that makes this rewrite, each flash of which
+-- `HoldsRewrite` holds, beside a core that writes to nothing that a boot reads
+abbrev pub HoldsConfirm : Places → List ℕ → Aim → List ℕ → List ℕ → Rewrite → Type 0
+HoldsConfirm layout first aim image flash write =
+    (others : ℕ → Bool) (left : List ℕ) → IsApart layout others
+    → HoldsRewrite layout flash write others left → BootsEither layout first aim image left
 
 -- how a boot that answered so ends as a leg whose last step has this number
 abbrev pub end_by : ℕ → Result (Option Booted) NorFault → LegEnd
@@ -101,16 +117,18 @@ pub record EndsWith (legs : List Leg) (confirm : Option Kept) (dev : CutDevice R
   pub confirm_is : t.confirm ≡ confirm
   pub flash_is : t.flash.items ≡ dev.inner.bytes
 
--- `confirms` tells which confirmations there may be, of a device, what was booted, and a rewrite
+-- `confirms` tells which confirmations there may be, of a device, what was booted, and a rewrite; the
+-- update began on the flash `first`, and is of `image`
 module _ (confirms : CutDevice Ram → Bor Booted → Bor Rewrite → Ran → Type 0) (layout : Places)
-    (first : List ℕ) where
-  -- behind the boot: a confirmation of what was booted
+    (first : List ℕ) (aim : Aim) (image : List ℕ) where
+  -- behind the boot: a confirmation of what was booted, and what holds at its moments
   pub record EndsConfirmed (legs : List Leg) (dev : CutDevice Ram) (t : Trial) : Type 0 where
     pub at : Bor Booted
     pub write : Bor Rewrite
     pub may : MayConfirm layout first dev at.now write.now
     pub ran : Ran
     pub confirmed : confirms dev at write ran
+    pub moments : HoldsConfirm layout first aim image dev.inner.bytes write.now
     pub ends : EndsWith (legs ++ ran.leg ∷ []) (Some ran.journal) ran.dev t
 
   -- or nothing
@@ -118,12 +136,13 @@ module _ (confirms : CutDevice Ram → Bor Booted → Bor Rewrite → Ran → Ty
   BehindBoot false legs dev t = EndsWith legs None dev t
   BehindBoot true legs dev t = EndsConfirmed legs dev t
 
-  -- behind the session: a boot of the device, whose power is on again
+  -- behind the session: a boot of the device, whose power is on again, and what holds at its moments
   pub record EndsBooted (upto : Upto) (session : Leg) (old : CutDevice Ram) (t : Trial)
       : Type 0 where
     pub new : CutDevice Ram
     pub leg : Leg
     pub booted : IsBootLeg layout (restarted old) new leg
+    pub moments : HoldsBoot layout first aim image old.inner.bytes
     pub behind : BehindBoot (wants_confirm upto && is_done leg.end) (session ∷ leg ∷ []) new t
 
   -- or nothing
@@ -135,12 +154,13 @@ module _ (confirms : CutDevice Ram → Bor Booted → Bor Rewrite → Ran → Ty
 -- whose end isn't Done is the last. `writes` tells which sessions there may be.
 pub record IsTrial (writes : Ran → Type 0)
     (confirms : CutDevice Ram → Bor Booted → Bor Rewrite → Ran → Type 0)
-    (layout : Places) (first : List ℕ) (upto : Upto) (t : Trial) : Type 0 where
+    (layout : Places) (first : List ℕ) (aim : Aim) (image : List ℕ) (upto : Upto) (t : Trial)
+    : Type 0 where
   pub session : Ran
   pub written : writes session
   pub journal : t.session ≡ session.journal
-  pub behind : BehindSession confirms layout first (wants_boot upto && is_done session.leg.end)
-      upto session.leg session.dev t
+  pub behind : BehindSession confirms layout first aim image
+      (wants_boot upto && is_done session.leg.end) upto session.leg session.dev t
 
 -- its last leg was made whole
 abbrev pub AreDone : List Leg → Type 0
@@ -180,7 +200,7 @@ EndsAsChosen dev legs =
 pub record IsOutcome (writes : Ran → Type 0)
     (confirms : CutDevice Ram → Bor Booted → Bor Rewrite → Ran → Type 0) (layout : Places)
     (old : CutDevice Ram) (aim : Aim) (image : List ℕ) (upto : Upto) (t : Trial) : Type 0 where
-  pub trial : IsTrial writes confirms layout old.inner.bytes upto t
+  pub trial : IsTrial writes confirms layout old.inner.bytes aim image upto t
   pub end : EndsAsChosen old t.legs.items
   pub boots : BootsEither layout old.inner.bytes aim image t.flash.items
   pub after : IsBoot layout (images_in held layout t.flash.items)

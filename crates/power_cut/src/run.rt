@@ -60,7 +60,7 @@ pub fn trial<U: Runner>(
     ensures trial { IfOk result (λ t. IsTrial
         (λ ran. U.has_written runner.now dev aim.entry image.entry (Ok ran))
         (λ d at write ran. U.has_confirmed runner.now d at write (Ok ran))
-        layout.now dev.inner.bytes upto t) }
+        layout.now dev.inner.bytes aim.now image.now upto t) }
     ensures end { IfOk result (λ t. EndsAsChosen dev t.legs.items) }
     ensures boots { IfOk result (λ t.
         BootsEither layout.now dev.inner.bytes aim.now image.now t.flash.items) }

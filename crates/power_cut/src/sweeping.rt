@@ -182,7 +182,8 @@ impl<U: Runner> Updates<'_, U> {
         ensures update { IfOk result (IsUpdateOf
             (λ dev ran. U.has_written self.now.runner.now dev self.now.aim self.now.image (Ok ran))
             (λ dev at write ran. U.has_confirmed self.now.runner.now dev at write (Ok ran))
-            self.now.layout.now self.now.flash.now self.now.tear cut) }
+            self.now.layout.now self.now.flash.now self.now.tear self.now.aim.now
+            self.now.image.now cut) }
         ensures boots { IfOk result (λ t. BootsEither self.now.layout.now self.now.flash.now
             self.now.aim.now self.now.image.now t.flash.items) }
         ensures after { IfOk result (λ t. IsBoot self.now.layout.now

@@ -19,6 +19,7 @@ trial-requires-clause-confirmed g c = λ dev at write ran may post.
 -- the legs are those of both cores
 pub returns-clause-trial : goal.returns-clause-trial
 returns-clause-trial g c =
-    trial_of c.trial.result c.args.layout.now c.args.device.inner.bytes c.args.upto _ _
+    trial_of c.trial.result c.args.layout.now c.args.device.inner.bytes c.args.aim.now
+    c.args.image.now c.args.upto _ _
     c.trial.ensures.trial _ _ (λ ran post. post.1 c.args.layout.now c.requires.table.layout_is)
     (λ dev at write ran may post. post.1 c.args.layout.now c.requires.table.layout_is)
