@@ -22,6 +22,7 @@ use Rattle.power_cut.specs.declared.swept.SweepNo.{SweepNo}
 use Rattle.power_cut.specs.declared.swept.SweepNo.TheVariants.{Refused as RefusedSession, Memory as NoMemory}
 use Rattle.core_script.specs.declared.action.Action.{Action}
 use Rattle.flash_steps.specs.Parts.{open_addresses}
+use Rattle.update_steps.proofs.ApartLemmas.{flash_apart}
 use Rattle.update_steps.proofs.SessionLemmas.{ShowsNone}
 use Rattle.update_steps.proofs.TableLemmas.{table_fits}
 use Rattle.power_cut.specs.Device.{IsWholeEnd}
@@ -35,6 +36,7 @@ use Rattle.duo_run.specs.Both.{HasTable}
 use Rattle.duo_run.specs.Legs.{ConfirmShare, IsDuoConfirm, IsDuoSession, MayInstall, SessionShare, ShowsApp}
 use Rattle.duo_run.specs.Worker.{WorkerShare}
 use Rattle.duo_run.proofs.FewStepsLemmas.{worker_few}
+use Rattle.duo_run.proofs.OpeningLemmas.{table_lays}
 use Rattle.flash_text.specs.declared.refusal.Refusal.{Refusal}
 use Rattle.flash_cli.specs.declared.opening.Opening.{Opening as CodeOpening}
 use Rattle.flash_cli.specs.declared.status.Status.TheVariants.{Refused}
@@ -204,6 +206,8 @@ module _ (tear : ℕ) (o : CodeOpening) (image : List ℕ) (begun : IsBegun imag
         aims = begun.aims;
         whole = whole;
         sweep = sweep;
+        apart = flash_apart o.flash.items o.table o.layout begun.table.table
+            (table_lays o.flash.items o.table o.layout begun.table);
         steps = steps;
         reached = λ k t within u. sym (same_end t.legs.items)
             ∙ cut_ends begins 0 tear o.aim may shown (omega arith) k t u

@@ -4,6 +4,8 @@ use Rattle.std.specs.Prelude.{◌≡◌, ◌⊎◌, ◌≤◌, ℕ, nat_lt, if�
 use Rattle.boot_run.specs.declared.aims.Aim.{Aim}
 use Rattle.pipe_ends.specs.Store.{Files}
 use Rattle.pipe_ends.specs.Sink.{TellsAll, TellsSome}
+use Rattle.flash_steps.specs.Parts.{open_addresses}
+use Rattle.update_steps.specs.Beside.{IsApart}
 use Rattle.power_cut.specs.declared.legs.LegEnd.{LegEnd}
 use Rattle.power_cut.specs.declared.legs.LegEnd.TheVariants.{Done as DoneEnd, Device, Cut, FirstByte as FirstByteEnd, Empty as EmptyEnd, Bad}
 use Rattle.power_cut.specs.declared.legs.Upto.TheVariants.{Confirm}
@@ -60,13 +62,15 @@ sweep_count o aim =
     update_count o.layout aim o.image (worker_steps o.rows o.script) Confirm o.flash
 
 -- a sweep that began so, with this tear number: the steps of an update by both cores that was not
--- cut, of which core 0 is the driver, and what boots behind a cut in each of them. These are as many
--- as the files give, and an update that is cut in one of them ends there
+-- cut, of which core 0 is the driver, beside a core that writes to nothing that a boot reads, and
+-- what boots behind a cut in each of them. These are as many as the files give, and an update that is
+-- cut in one of them ends there
 pub record IsSwept (tear : ℕ) (o : Opening) (s : Swept) : Type 0 where
   pub aim : Aim
   pub aims : AimsIn o.flash o.layout (length o.image) aim
   pub whole : session_end (slot_size o.layout aim.slot) o.image ≡ DoneEnd
   pub sweep : IsSweep (Writes o 0 aim) (Confirms o 0) o.layout o.flash tear aim o.image s
+  pub apart : IsApart o.layout (open_addresses o.rows)
   pub steps : s.steps ≡ sweep_count o aim
   pub reached : (k : ℕ) (t : Trial) → k ≤ s.steps → IsSweptUpdate o 0 tear aim (Some k) t
       → last_end t.legs.items ≡ Cut k
