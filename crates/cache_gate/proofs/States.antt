@@ -1,6 +1,6 @@
 -- What stays of a typed state after a walk or a turn.
-use Rattle.std.proofs.Common.{◌≡◌, ℕ, ◌++◌, ◌<◌, ◌∙◌, ap, subst, sym, refl, inl, inr, List, [], ◌∷◌, Option, None, true, false, append-nil, append_assoc, Result, Ok, Err}
-use Rattle.std.specs.Prelude.{IsNone, IsSome}
+use Rattle.std.proofs.Common.{◌≡◌, ℕ, ◌++◌, ◌<◌, ◌∙◌, ap, subst, sym, refl, inl, inr, List, [], ◌∷◌, Option, Some, None, true, false, append-nil, append_assoc, Result, Ok, Err}
+use Rattle.std.specs.Prelude.{IsNone, IsSome, unwrap_or}
 use Rattle.core_state.specs.declared.registers.Record.{Record}
 use Rattle.core_state.specs.declared.registers.Regs.{Regs}
 use Rattle.core_state.specs.Registers.{masked, saved_and_masked, restored, own_registers, reset}
@@ -19,14 +19,16 @@ use Rattle.park_words.specs.Views.{Seated}
 use Rattle.park_words.specs.Story.{done_by, Saw, RanToRest, events_of}
 use Rattle.park_words.proofs.Stories.{own_both}
 use Rattle.bus_hub.specs.declared.did.Did.{Did}
-use Rattle.bus_hub.specs.declared.did.Did.TheVariants.{Opened, Closed, Broken, Fetched, Missed, Masked}
+use Rattle.bus_hub.specs.declared.did.Did.TheVariants.{Opened, Closed, Broken, Fetched, Noted, Missed, Masked}
+use Rattle.bus_hub.specs.declared.entry.Act.{Act as Noting}
 use Rattle.bus_hub.specs.declared.reads.FetchNo.{FetchNo}
 use Rattle.bus_hub.specs.declared.reads.FetchNo.TheVariants as refusals
 use Rattle.bus_hub.specs.Shares.{Begun, open_after, open_from}
-use Rattle.cache_gate.specs.Works.{Works, works_of, events_in, work_in}
-use Rattle.cache_gate.specs.Own.{Held, RanBoth, own_of, held_of, behind, kept, to_phase, later_on, did, IsTrueTo, IsRunning, IsMaskedIn, Adds, HasStepped}
+use Rattle.bus_hub.specs.Fetch.{space_at}
+use Rattle.cache_gate.specs.Works.{Works, Tells, works_of, events_in, told_in}
+use Rattle.cache_gate.specs.Own.{Held, RanBoth, own_of, held_of, behind, kept, to_phase, later_on, did, IsTrueTo, IsRunning, IsMaskedIn, Adds, HasFetched, HasStepped, HasShownStep}
 use Rattle.cache_gate.specs.Said.{HasRead, HasPolled, HasFinished, HasMade, Added, fetch_event, ended, number_of_open}
-use Rattle.cache_gate.proofs.Walks.{works_of-append, events_in-append, works_then}
+use Rattle.cache_gate.proofs.Walks.{works_of-append, events_in-append, works_then, told_works, told_shows, works_kept, works_added, shows_kept}
 
 -- a core that did this, and added its items, is still true to its share
 true_after : (c c' : ℕ) (seen seen' : List Entry) (share share' items : List Did)
@@ -39,6 +41,14 @@ true_after c c' seen seen' share share' items more before w =
     ∙ (works_of-append (done_by c seen) (done_by c w.later)
     ∙ ((λ i. before i ++ w.own i)
     ∙ (sym (events_in-append share items) ∙ ap events_in (sym more))))))
+
+-- where nothing is saved, the registers in force are the core's own
+own_regs : (r : Record) → IsNone r.saved → r.regs ≡ own_registers r
+own_regs r unsaved = by r.saved unsaved
+  where
+    by : (saved : Option Regs) → IsNone saved → r.regs ≡ unwrap_or saved r.regs
+    by None none = refl
+    by (Some regs) none = absurd cc
 
 module _ {B : Type 0} where
   true_kept : (h h' : Held B Did) → h'.share ≡ h.share → IsTrueTo h
@@ -80,18 +90,58 @@ module _ {B : Type 0} where
   -- one that fetched, or was refused
   pub runs_read : (words : TableId) (h h' : Held B Did) (k at len : ℕ)
       (r : Result (Unit {0}) FetchNo) → IsRunning words h → HasRead k at len r h h'
-      → Works (work_in (fetch_event at r)) h.core h.seen h'.core h'.seen → IsRunning words h'
+      → Tells (told_in (fetch_event at r)) h.core h.seen h'.core h'.seen → IsRunning words h'
   runs_read words h h' k at len (Ok u) i f w =
       runs_more words h h' h.registers (Fetched k h.registers.regs at f.bytes ∷ []) i f.is
-      i.unsaved w
+      i.unsaved (told_works (kinds.Fetch (space_at at) ∷ []) h.core h'.core h.seen h'.seen w)
   runs_read words h h' k at len (Err refusals.Unmapped) i f w =
-      runs_more words h h' h.registers (Missed at len ∷ []) i f i.unsaved w
+      runs_more words h h' h.registers (Missed at len ∷ []) i f i.unsaved
+      (works_kept h.core h'.core h.seen h'.seen w)
   runs_read words h h' k at len (Err refusals.Masked) i f w =
-      runs_more words h h' h.registers (Masked at len ∷ []) i f i.unsaved w
+      runs_more words h h' h.registers (Masked at len ∷ []) i f i.unsaved
+      (works_kept h.core h'.core h.seen h'.seen w)
   runs_read words h h' k at len (Err refusals.Off) i f w =
-      runs_more words h h' h.registers _ i f i.unsaved w
+      runs_more words h h' h.registers _ i f i.unsaved
+      (works_kept h.core h'.core h.seen h'.seen w)
   runs_read words h h' k at len (Err refusals.Failed) i f w =
-      runs_more words h h' h.registers _ i f i.unsaved w
+      runs_more words h h' h.registers _ i f i.unsaved
+      (works_kept h.core h'.core h.seen h'.seen w)
+
+  -- what its caller sees of a fetch
+  pub fetched_as : (h h' : Held B Did) (k at len : ℕ) (r : Result (Unit {0}) FetchNo)
+      → IsNone h.registers.saved → HasRead k at len r h h'
+      → Tells (told_in (fetch_event at r)) h.core h.seen h'.core h'.seen
+      → HasFetched k at len r (own_of h) (own_of h')
+  fetched_as h h' k at len (Ok u) unsaved f w = record {
+    bytes = f.bytes;
+    many = f.many;
+    adds = record {
+      is = ap own_of f.is
+          ∙ ap (λ (q : Regs). did (own_of h) (Fetched k q at f.bytes ∷ []) h'.seen)
+          (own_regs h.registers unsaved);
+      works = told_works (kinds.Fetch (space_at at) ∷ []) h.core h'.core h.seen h'.seen w;
+    };
+  }
+  fetched_as h h' k at len (Err refusals.Unmapped) unsaved f w =
+      record { is = ap own_of f; works = works_kept h.core h'.core h.seen h'.seen w }
+  fetched_as h h' k at len (Err refusals.Masked) unsaved f w =
+      record { is = ap own_of f; works = works_kept h.core h'.core h.seen h'.seen w }
+  fetched_as h h' k at len (Err refusals.Off) unsaved f w =
+      record { is = ap own_of f; works = works_kept h.core h'.core h.seen h'.seen w }
+  fetched_as h h' k at len (Err refusals.Failed) unsaved f w =
+      record { is = ap own_of f; works = works_kept h.core h'.core h.seen h'.seen w }
+
+  -- and of a note
+  pub noted_as : (h h' : Held B Did) (k : ℕ) (act : Noting) → IsNone h.registers.saved
+      → h' ≡ behind h h.registers false (Noted k h.registers.regs act ∷ []) h'.seen
+      → Tells (events_in (Noted k h.registers.regs act ∷ [])) h.core h.seen h'.core h'.seen
+      → Adds (Noted k (own_of h).regs act ∷ []) (own_of h) (own_of h')
+  noted_as h h' k act unsaved e w =
+      subst (λ (q : Regs). Adds (Noted k q act ∷ []) (own_of h) (own_of h'))
+      (own_regs h.registers unsaved) (record {
+        is = ap own_of e;
+        works = works_added (Noted k h.registers.regs act ∷ []) h.core h'.core h.seen h'.seen w;
+      })
 
   -- one that masked itself, in another phase
   pub masks : (words : TableId) (h h' : Held B Did) (phase : Phase) → IsRunning words h
@@ -137,7 +187,8 @@ module _ {B : Type 0} where
     turn = ap (λ (z : Held B Did). z.turn) e;
     stepping = ap (λ (z : Held B Did). z.stepping) e;
     true_to = true_after h.core h'.core h.seen h'.seen h.share h'.share items
-        (ap (λ (z : Held B Did). z.share) e) i.true_to a.works;
+        (ap (λ (z : Held B Did). z.share) e) i.true_to
+        (works_added items h.core h'.core h.seen h'.seen a.works);
   }
 
   pub quiet_made : (words : TableId) (h h' : Held B Did) (k : ℕ) (step : Step)
@@ -150,7 +201,10 @@ module _ {B : Type 0} where
   -- what its caller sees of a step
   adds_as : (h h' : Held B Did) (items : List Did) → Added items h h'
       → Adds items (own_of h) (own_of h')
-  adds_as h h' items a = record { is = ap own_of a.is; works = a.works }
+  adds_as h h' items a = record {
+    is = ap own_of a.is;
+    works = works_added items h.core h'.core h.seen h'.seen a.works;
+  }
 
   pub quiet_stepped : (h h' : Held B Did) (k : ℕ) (step : Step)
       (r : Result (Unit {0}) NorFault) → h.registers.regs ≡ masked → HasMade k step r h h'
@@ -164,6 +218,16 @@ module _ {B : Type 0} where
     adds = subst (λ (q : Regs). Adds (Opened k q step ∷ Broken k q why m.left ∷ []) (own_of h)
         (own_of h')) e (adds_as h h' _ m.added);
   })
+
+  -- and what shows of it
+  pub quiet_shown : (h h' : Held B Did) (k : ℕ) (step : Step) (r : Result (Unit {0}) NorFault)
+      → HasMade k step r h h' → HasShownStep r (own_of h) (own_of h')
+  quiet_shown h h' k step (Ok u) m =
+      told_shows (kinds.Begin ∷ kinds.Done ∷ []) h.core h'.core h.seen h'.seen m.works
+  quiet_shown h h' k step (Err why) (inl m) =
+      inl (shows_kept h.core h'.core h.seen h'.seen m.works)
+  quiet_shown h h' k step (Err why) (inr m) = inr
+      (told_shows (kinds.Begin ∷ kinds.Done ∷ []) h.core h'.core h.seen h'.seen m.added.works)
 
   -- a poll that found the step running
   pub busy_on : (h0 h h' : Held B Did) (k : ℕ) → h ≡ later_on h0 h.seen → h0.turn ≡ false
@@ -207,8 +271,8 @@ module _ {B : Type 0} where
   -- a step that was begun, and ended so
   pub made_so : (h m h' : Held B Did) (k : ℕ) (step : Step) (r : Result (Unit {0}) NorFault)
       → m ≡ behind h h.registers true (Opened k h.registers.regs step ∷ []) m.seen
-      → Works (kinds.Begin ∷ []) h.core h.seen m.core m.seen → HasFinished k r m h'
-      → Works (kinds.Done ∷ []) m.core m.seen h'.core h'.seen → HasMade k step r h h'
+      → Tells (kinds.Begin ∷ []) h.core h.seen m.core m.seen → HasFinished k r m h'
+      → Tells (kinds.Done ∷ []) m.core m.seen h'.core h'.seen → HasMade k step r h h'
   made_so h m h' k step r e w f v = by_end r f.left f.is where
     regs : Regs
     regs = h.registers.regs
@@ -220,7 +284,7 @@ module _ {B : Type 0} where
       is = p ∙ (ap (λ (z : Held B Did). behind z z.registers false items h'.seen) e
           ∙ ap (λ (s : List Did). record h { share = s; turn = false; stepping = false; seen = h'.seen })
           (append_assoc h.share (Opened k regs step ∷ []) items));
-      works = subst (λ (l : List Kind). Works l h.core h.seen h'.core h'.seen) (sym both)
+      works = subst (λ (l : List Kind). Tells l h.core h.seen h'.core h'.seen) (sym both)
           (works_then (kinds.Begin ∷ []) (kinds.Done ∷ []) h.core m.core h'.core h.seen m.seen
           h'.seen w v);
     }

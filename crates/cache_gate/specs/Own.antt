@@ -8,6 +8,8 @@ use Rattle.nor_device.specs.Nor.{IsPart}
 use Rattle.atomic_table.specs.Seated.{TableId}
 use Rattle.duo_machine.specs.declared.machine.Phase.{Phase}
 use Rattle.duo_machine.specs.declared.machine.Phase.TheVariants.{Running}
+use Rattle.duo_machine.specs.declared.events.Kind.{Kind}
+use Rattle.duo_machine.specs.declared.events.Kind.TheVariants as kinds
 use Rattle.duo_machine.specs.Machine.{first_machine}
 use Rattle.duo_machine.specs.Runs.{IsSafeRun, last_set}
 use Rattle.nor_device.specs.declared.step.Step.{Step}
@@ -22,7 +24,7 @@ use Rattle.bus_hub.specs.declared.reads.FetchNo.{FetchNo}
 use Rattle.bus_hub.specs.Hub.{Hub, needs, byte_needs, room_of}
 use Rattle.bus_hub.specs.Shares.{made, moved_by}
 use Rattle.bus_hub.specs.Told.{fetch_items, held}
-use Rattle.cache_gate.specs.Works.{Works, works_of, events_in}
+use Rattle.cache_gate.specs.Works.{Works, Shows, works_of, events_in}
 
 -- what a seat knows of its own core
 pub record Held (B D : Type 0) : Type 0 where
@@ -109,6 +111,18 @@ module _ {B D : Type 0} where
   pub record Keeps (o o' : Own B D) : Type 0 where
     pub is : o' ≡ saw o o'.seen
     pub works : Works [] o.core o.seen o'.core o'.seen
+
+-- of what the core did meanwhile, exactly this shows of quiet periods: Take and Give of the lock, Begin and
+-- Done of steps, in order
+abbrev pub HasShown : {B D : Type 0} → List Kind → Own B D → Own B D → Type 0
+HasShown events o o' = Shows events o.core o.seen o'.core o'.seen
+
+-- what shows of a step, by its answer: it was begun and has ended; where it was refused, it was begun and has
+-- ended, or was not begun
+abbrev pub HasShownStep : {B D : Type 0} → Result (Unit {0}) NorFault → Own B D → Own B D → Type 0
+HasShownStep (Ok _) o o' = HasShown (kinds.Begin ∷ kinds.Done ∷ []) o o'
+HasShownStep (Err why) o o' =
+    HasShown [] o o' ⊎ HasShown (kinds.Begin ∷ kinds.Done ∷ []) o o'
 
 -- the core added exactly these items to its share, and its work was exactly their events
 pub record Adds {B : Type 0} (items : List Did) (o o' : Own B Did) : Type 0 where

@@ -21,7 +21,7 @@ use Rattle.bus_hub.specs.Told.{asked, polled, fetch_items, held}
 use Rattle.bus_hub.specs.Shares.{Begun}
 use Rattle.cache_gate.specs.declared.said.Said.{Said}
 use Rattle.cache_gate.specs.declared.said.Said.TheVariants.{Saved, Restored, Set, Noting, Fetched, Starting, Polled, Looked, Mapped, Freed}
-use Rattle.cache_gate.specs.Works.{Works, events_in}
+use Rattle.cache_gate.specs.Works.{Tells, events_in}
 use Rattle.cache_gate.specs.Own.{Held, behind}
 
 -- the last bytes
@@ -127,10 +127,10 @@ pub record HasFinished {B : Type 0} (k : ℕ) (r : Result (Unit {0}) NorFault) (
   pub left : List ℕ
   pub is : h' ≡ behind h h.registers false (ended k h.registers.regs left r) h'.seen
 
--- these items were added to the share, and their events were the work
+-- these items were added to the share, and nothing is told but their events
 pub record Added {B : Type 0} (items : List Did) (h h' : Held B Did) : Type 0 where
   pub is : h' ≡ behind h h.registers false items h'.seen
-  pub works : Works (events_in items) h.core h.seen h'.core h'.seen
+  pub works : Tells (events_in items) h.core h.seen h'.core h'.seen
 
 -- a step was broken off
 pub record IsTorn {B : Type 0} (k : ℕ) (step : Step) (why : NorFault) (h h' : Held B Did)

@@ -1,4 +1,5 @@
--- Which events of the machine a core's own work is: a fetch, a Set, the begin and the end of a step.
+-- Which events of the machine a core's own work is: a fetch, a Set, the begin and the end of a step; and
+-- what shows of its quiet periods.
 use Rattle.std.specs.Prelude.{◌≡◌, ℕ, List, [], ◌∷◌, ◌++◌, Option, Some, None}
 use Rattle.core_state.specs.declared.registers.Regs.{Regs}
 use Rattle.duo_machine.specs.declared.events.Kind.{Kind}
@@ -33,38 +34,98 @@ work_of kinds.See = None
 work_of kinds.End = None
 work_of kinds.Leave = None
 
+-- the event, where it is part of a quiet period: its begin, a step's begin and end, its own end
+abbrev pub period_of : Kind → Option Kind
+period_of kinds.Begin = Some kinds.Begin
+period_of kinds.Done = Some kinds.Done
+period_of kinds.Take = Some kinds.Take
+period_of kinds.Give = Some kinds.Give
+period_of (kinds.Set regs) = None
+period_of (kinds.Fetch space) = None
+period_of kinds.Start = None
+period_of kinds.Rest = None
+period_of kinds.Save = None
+period_of kinds.Back = None
+period_of kinds.Hold = None
+period_of kinds.Ask = None
+period_of kinds.Park = None
+period_of kinds.See = None
+period_of kinds.End = None
+period_of kinds.Leave = None
+
+-- the event, where it is work or of the lock
+abbrev pub told_of : Kind → Option Kind
+told_of kinds.Begin = Some kinds.Begin
+told_of kinds.Done = Some kinds.Done
+told_of (kinds.Set regs) = Some (kinds.Set regs)
+told_of (kinds.Fetch space) = Some (kinds.Fetch space)
+told_of kinds.Take = Some kinds.Take
+told_of kinds.Give = Some kinds.Give
+told_of kinds.Start = None
+told_of kinds.Rest = None
+told_of kinds.Save = None
+told_of kinds.Back = None
+told_of kinds.Hold = None
+told_of kinds.Ask = None
+told_of kinds.Park = None
+told_of kinds.See = None
+told_of kinds.End = None
+told_of kinds.Leave = None
+
 -- one more event, or none
 abbrev pub before : Option Kind → List Kind → List Kind
 before None later = later
 before (Some kind) later = kind ∷ later
 
+module _ (pick : Kind → Option Kind) where
+  -- what is picked of an entry, before what is picked later
+  abbrev pub pick_before : Act → List Kind → List Kind
+  pick_before (Made kind) later = before (pick kind) later
+  pick_before Took later = later
+  pick_before Gave later = later
+
+  -- what is picked of the entries of a run
+  abbrev pub picked : List Entry → List Kind
+  picked [] = []
+  picked (e ∷ run) = pick_before e.act (picked run)
+
+  -- from what a core had seen of the run to what it has seen, exactly this is picked of its own events,
+  -- in order
+  pub record Picks (events : List Kind) (c : ℕ) (seen : List Entry) (c' : ℕ) (seen' : List Entry)
+      : Type 0 where
+    pub core : c' ≡ c
+    pub later : List Entry
+    pub is : seen' ≡ seen ++ later
+    pub own : picked (done_by c later) ≡ events
+
 -- the work of an entry, before later work
 abbrev pub act_before : Act → List Kind → List Kind
-act_before (Made kind) later = before (work_of kind) later
-act_before Took later = later
-act_before Gave later = later
+act_before = pick_before work_of
 
 -- the work among the entries of a run
 abbrev pub works_of : List Entry → List Kind
-works_of [] = []
-works_of (e ∷ run) = act_before e.act (works_of run)
-
--- the work that the event of a turn is, if it had one
-abbrev pub work_in : Option Kind → List Kind
-work_in None = []
-work_in (Some kind) = before (work_of kind) []
+works_of = picked work_of
 
 -- from what a core had seen of the run to what it has seen, its own work was exactly this, in order
-pub record Works (work : List Kind) (c : ℕ) (seen : List Entry) (c' : ℕ) (seen' : List Entry)
-    : Type 0 where
-  pub core : c' ≡ c
-  pub later : List Entry
-  pub is : seen' ≡ seen ++ later
-  pub own : works_of (done_by c later) ≡ work
+abbrev pub Works : List Kind → ℕ → List Entry → ℕ → List Entry → Type 0
+Works = Picks work_of
+
+-- it took and gave back the lock, and began and ended steps, exactly so, in order
+abbrev pub Shows : List Kind → ℕ → List Entry → ℕ → List Entry → Type 0
+Shows = Picks period_of
+
+-- it did this work, and took and gave back the lock, exactly so, in order
+abbrev pub Tells : List Kind → ℕ → List Entry → ℕ → List Entry → Type 0
+Tells = Picks told_of
+
+-- what is told of the event of a turn, if it had one
+abbrev pub told_in : Option Kind → List Kind
+told_in None = []
+told_in (Some kind) = before (told_of kind) []
 
 -- the same of what a seat knows
 abbrev pub Worked : {B D : Type 0} → List Kind → View B D → View B D → Type 0
-Worked work v w = Works work v.core v.seen w.core w.seen
+Worked events v w = Tells events v.core v.seen w.core w.seen
 
 -- the event that a note of the journal is
 abbrev pub noted_event : Noting → Regs → Option Kind

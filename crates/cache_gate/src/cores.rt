@@ -1,6 +1,7 @@
 //! The states of a core.
 
 ghost use Rattle.std.specs.Prelude.{◌≡◌, ◌≢◌, ◌↔◌, ◌+◌, ◌<◌, ◌≤◌, ◌^◌, [], ◌∷◌, length, IfSome, OnOk, Err};
+ghost use Rattle.duo_machine.specs.declared.events.Kind.TheVariants as kinds;
 ghost use Rattle.nor_device.specs.Flash.{end_of, IsInOnePage};
 ghost use Rattle.bus_hub.specs.declared.did.Base.{Base};
 ghost use Rattle.bus_hub.specs.declared.did.Did.{Did};
@@ -10,7 +11,7 @@ ghost use Rattle.bus_hub.specs.declared.reads.FetchNo.TheVariants as refusals;
 ghost use Rattle.bus_hub.specs.Fetch.{IsServed, IsFixed};
 ghost use Rattle.bus_hub.specs.Log.{IsNote};
 ghost use Rattle.bus_hub.specs.Told.{asked};
-ghost use Rattle.cache_gate.specs.Own.{OnBase, HasRoom, IsInside, MayMake, Keeps, Adds, HasFetched, HasStepped, IsPartOf, set_to};
+ghost use Rattle.cache_gate.specs.Own.{OnBase, HasRoom, IsInside, MayMake, Keeps, HasShown, HasShownStep, Adds, HasFetched, HasStepped, IsPartOf, set_to};
 
 use crate::{steps, turns, waits};
 use bus_hub::{Act, Bus, Duty, FetchNo};
@@ -117,8 +118,10 @@ impl<'w, D: Crash, K: Duty> Model for Quiet<'w, D, K> {
 
 impl<'w, D: Crash, K: Duty> RestCore<'w, D, K> {
     /// The core runs, once the other one does not hold it at rest.
+    #[tactic(auto, using(crate::proofs::Walks::works_kept, crate::proofs::Walks::shows_kept))]
     pub fn start<R: Wait>(mut self, rt: &R) -> Core<'w, D, K>
-        ensures { Keeps self.entry result }
+        ensures keeps { Keeps self.entry result }
+        ensures shows { HasShown [] self.entry result }
     {
         waits::wake(rt, self.words, &mut self.seat);
         Core {
@@ -137,8 +140,10 @@ impl<'w, D: Crash, K: Duty> RestCore<'w, D, K> {
 
 impl<'w, D: Crash, K: Duty> Core<'w, D, K> {
     /// The core rests, once the other one does not ask it to park.
+    #[tactic(auto, using(crate::proofs::Walks::works_kept, crate::proofs::Walks::shows_kept))]
     pub fn rest<R: Wait>(mut self, rt: &R) -> RestCore<'w, D, K>
-        ensures { Keeps self.entry result }
+        ensures keeps { Keeps self.entry result }
+        ensures shows { HasShown [] self.entry result }
     {
         waits::retire(rt, self.words, &mut self.seat);
         RestCore {
@@ -149,8 +154,10 @@ impl<'w, D: Crash, K: Duty> Core<'w, D, K> {
 
     /// The core has the lock and is masked, and the other one is parked or held at rest. While it waits for
     /// the lock it parks where it is asked to.
+    #[tactic(auto, using(crate::proofs::Walks::works_taken, crate::proofs::Walks::shows_taken))]
     pub fn enter<R: Wait>(mut self, rt: &R) -> Quiet<'w, D, K>
-        ensures { Keeps self.entry result }
+        ensures keeps { Keeps self.entry result }
+        ensures shows { HasShown (kinds.Take ∷ []) self.entry result }
     {
         waits::enter(rt, self.words, &mut self.seat);
         Quiet {
@@ -160,8 +167,10 @@ impl<'w, D: Crash, K: Duty> Core<'w, D, K> {
     }
 
     /// Where the core is asked to park, it does so, until it is freed.
+    #[tactic(auto, using(crate::proofs::Walks::works_kept, crate::proofs::Walks::shows_kept))]
     pub fn serve_gate<R: Wait>(&mut self, rt: &R)
-        ensures { Keeps self.old self.new }
+        ensures keeps { Keeps self.old self.new }
+        ensures shows { HasShown [] self.old self.new }
     {
         waits::serve(rt, self.words, &mut self.seat);
     }
@@ -179,6 +188,7 @@ impl<'w, D: Crash, K: Duty> Core<'w, D, K> {
         requires most { len ≤ 256 }
         requires room { HasRoom self.old.base self.old.core self.old.share 1 len }
         ensures adds { HasFetched k at len result self.old self.new }
+        ensures shows { HasShown [] self.old self.new }
         ensures masked { result ≢ Err refusals.Unmapped
             → result ≡ Err refusals.Masked ↔ (¬ IsServed self.old.regs.mask at) }
         ensures fixed { OnBase self.old.base (λ b. IsFixed b.map (length b.flash) at len)
@@ -188,10 +198,12 @@ impl<'w, D: Crash, K: Duty> Core<'w, D, K> {
     }
 
     /// Sets its registers.
+    #[tactic(auto, using(crate::proofs::Walks::works_set))]
     pub fn set<R: Wait>(&mut self, rt: &R, k: u32, regs: Regs)
         requires mask { regs.mask ≤ 3 }
         requires room { HasRoom self.old.base self.old.core self.old.share 1 0 }
-        ensures { Adds (Noted k regs Set ∷ []) (set_to self.old regs) self.new }
+        ensures adds { Adds (Noted k regs Set ∷ []) (set_to self.old regs) self.new }
+        ensures shows { HasShown [] self.old self.new }
     {
         turns::set(rt, self.words, &mut self.seat, k, regs);
     }
@@ -200,13 +212,15 @@ impl<'w, D: Crash, K: Duty> Core<'w, D, K> {
     pub fn note<R: Wait>(&mut self, rt: &R, k: u32, act: Act)
         requires plain { IsNote act }
         requires room { HasRoom self.old.base self.old.core self.old.share 1 0 }
-        ensures { Adds (Noted k self.old.regs act ∷ []) self.old self.new }
+        ensures adds { Adds (Noted k self.old.regs act ∷ []) self.old self.new }
+        ensures shows { HasShown [] self.old self.new }
     {
         turns::note(rt, self.words, &mut self.seat, k, act);
     }
 
     /// Maps the lowest `n` free pages of the space to the flash pages from `flash_page` on. Answers the
     /// address of the first one.
+    #[tactic(auto, using(crate::proofs::Walks::works_kept, crate::proofs::Walks::shows_kept))]
     pub fn map<R: Wait>(
         &mut self,
         rt: &R,
@@ -216,14 +230,17 @@ impl<'w, D: Crash, K: Duty> Core<'w, D, K> {
     ) -> Result<u32, NoPages>
         requires some { 1 ≤ n }
         requires flash { flash_page + n ≤ 256 }
-        ensures { Adds (Mapping flash_page n space result ∷ []) self.old self.new }
+        ensures adds { Adds (Mapping flash_page n space result ∷ []) self.old self.new }
+        ensures shows { HasShown [] self.old self.new }
     {
         turns::map(rt, self.words, &mut self.seat, flash_page, n, space)
     }
 
     /// Frees the run of pages that was mapped from the address on.
+    #[tactic(auto, using(crate::proofs::Walks::works_kept, crate::proofs::Walks::shows_kept))]
     pub fn unmap<R: Wait>(&mut self, rt: &R, at: u32) -> Result<(), NotMapped>
-        ensures { Adds (Unmapping at result ∷ []) self.old self.new }
+        ensures adds { Adds (Unmapping at result ∷ []) self.old self.new }
+        ensures shows { HasShown [] self.old self.new }
     {
         turns::unmap(rt, self.words, &mut self.seat, at)
     }
@@ -231,8 +248,10 @@ impl<'w, D: Crash, K: Duty> Core<'w, D, K> {
 
 impl<'w, D: Crash, K: Duty> Quiet<'w, D, K> {
     /// The other core goes on, this one gets its own registers back, and the lock is free.
+    #[tactic(auto, using(crate::proofs::Walks::works_given, crate::proofs::Walks::shows_given))]
     pub fn leave<R: Wait>(mut self, rt: &R) -> Core<'w, D, K>
-        ensures { Keeps self.entry result }
+        ensures keeps { Keeps self.entry result }
+        ensures shows { HasShown (kinds.Give ∷ []) self.entry result }
     {
         waits::calm(rt, self.words, &mut self.seat);
         Core {
@@ -242,22 +261,25 @@ impl<'w, D: Crash, K: Duty> Quiet<'w, D, K> {
     }
 
     /// Makes the step, from its begin to its end, under the number of the action.
-    #[tactic(auto, using(crate::proofs::States::quiet_stepped))]
+    #[tactic(auto, using(crate::proofs::States::quiet_shown))]
     pub fn step<R: Wait>(&mut self, rt: &R, k: u32, step: &Step) -> Result<(), NorFault>
         requires paged { IsInOnePage step.now }
         requires small { end_of step.now ≤ 2 ^ 32 }
         requires inside { IsInside self.old.base (end_of step.now) }
         requires may { MayMake K.part K.grants K.moved self.old.base self.old.core self.old.share step.now }
         requires room { HasRoom self.old.base self.old.core self.old.share 2 0 }
-        ensures { HasStepped k step.now result self.old self.new }
+        ensures adds { HasStepped k step.now result self.old self.new }
+        ensures shows { HasShownStep result self.old self.new }
     {
         steps::make(rt, self.words, &mut self.seat, k, step)
     }
 
     /// The bytes of the flash from the address on, as many as `out` has.
+    #[tactic(auto, using(crate::proofs::Walks::works_added))]
     pub fn read<R: Wait>(&mut self, rt: &R, at: u32, out: &mut [u8]) -> Result<(), NorFault>
         requires inside { IsInside self.old.base (at + length out.old) }
         ensures adds { Adds (asked result) self.old self.new }
+        ensures shows { HasShown [] self.old self.new }
         ensures length { length out.new ≡ length out.old }
         ensures bytes { OnOk result (IfSome self.old.base (λ b. IsPartOf
             ⟦<Bus<D, K> as Records>⟧.stands (λ h. D.bytes h.dev) b self.old.core

@@ -2,7 +2,7 @@
 
 ghost use Rattle.std.specs.Prelude.{◌≡◌, true};
 ghost use Rattle.park_words.specs.Told.{Gives, HasGiven};
-ghost use Rattle.cache_gate.specs.Works.{Worked, work_in};
+ghost use Rattle.cache_gate.specs.Works.{Worked, told_in};
 ghost use Rattle.cache_gate.specs.Said.{work_by};
 
 use bus_hub::{Act, Bus, Duty, FetchNo};
@@ -82,7 +82,7 @@ pub(crate) fn give<D: Crash, K: Duty>(
         ⟦<Bus<D, K> as Records>⟧.stands seat.old.view bus (work_by D.bytes said.now bus) }
     ensures exact { HasGiven ⟦<Bus<D, K> as Records>⟧.records ⟦<Bus<D, K> as Records>⟧.runs
         bus (work_by D.bytes said.now bus) seat.old seat.new }
-    ensures works { Worked (work_in (work_by D.bytes said.now bus).event)
+    ensures works { Worked (told_in (work_by D.bytes said.now bus).event)
         seat.old.view seat.new.view }
 {
     words.give_said(seat, bus, said);

@@ -13,7 +13,7 @@ ghost use Rattle.bus_hub.specs.declared.reads.FetchNo.TheVariants as refusals;
 ghost use Rattle.bus_hub.specs.Fetch.{IsServed, IsFixed};
 ghost use Rattle.bus_hub.specs.Log.{IsNote};
 ghost use Rattle.bus_hub.specs.Told.{asked, started};
-ghost use Rattle.cache_gate.specs.Works.{Worked, work_in, events_in};
+ghost use Rattle.cache_gate.specs.Works.{Worked, told_in, events_in};
 ghost use Rattle.cache_gate.specs.Own.{OnBase, held_of, behind, kept, HasRoom, IsInside, MayMake, IsPartOf};
 ghost use Rattle.cache_gate.specs.Said.{HasPolled, HasRead, GivesRoom, is_begun, number_of_open, fetch_event, begin_event, done_event};
 ghost use Rattle.bus_hub.specs.Hub.{Fits};
@@ -184,7 +184,7 @@ pub(crate) fn fetch<R: Wait, D: Crash, K: Duty>(
     requires most { len ≤ 256 }
     requires room { HasRoom seat.old.view.base seat.old.view.core seat.old.view.share 1 len }
     ensures exact { HasRead k at len result (held_of seat.old) (held_of seat.new) }
-    ensures works { Worked (work_in (fetch_event at result)) seat.old.view seat.new.view }
+    ensures works { Worked (told_in (fetch_event at result)) seat.old.view seat.new.view }
     ensures masked { result ≢ Err refusals.Unmapped
         → result ≡ Err refusals.Masked ↔ (¬ IsServed seat.old.view.registers.regs.mask at) }
     ensures fixed { OnBase seat.old.view.base (λ b. IsFixed b.map (length b.flash) at len)
@@ -224,7 +224,7 @@ pub(crate) fn begin<R: Wait, D: Crash, K: Duty>(
     requires room { HasRoom seat.old.view.base seat.old.view.core seat.old.view.share 2 0 }
     ensures exact { held_of seat.new ≡ behind (held_of seat.old) seat.old.view.registers (is_begun result)
         (started k seat.old.view.registers.regs step.now result) seat.new.view.seen }
-    ensures works { Worked (work_in (begin_event result)) seat.old.view seat.new.view }
+    ensures works { Worked (told_in (begin_event result)) seat.old.view seat.new.view }
 {
     let mut bus = take(rt, words, seat);
     known(&bus, seat);
@@ -248,7 +248,7 @@ pub(crate) fn poll<R: Wait, D: Crash, K: Duty>(
     requires base { IsSome seat.old.view.base }
     requires begun { number_of_open (open_from None seat.old.view.share) ≡ k }
     ensures exact { HasPolled k result (held_of seat.old) (held_of seat.new) }
-    ensures works { Worked (work_in (done_event result)) seat.old.view seat.new.view }
+    ensures works { Worked (told_in (done_event result)) seat.old.view seat.new.view }
 {
     let mut bus = take(rt, words, seat);
     known(&bus, seat);

@@ -1,8 +1,9 @@
 //! Loops that wait for one word, and the walks that are made of them and of turns.
 
-ghost use Rattle.std.specs.Prelude.{◌≡◌, ◌⊎◌, false, [], IsNone, IsSome};
+ghost use Rattle.std.specs.Prelude.{◌≡◌, ◌⊎◌, false, [], ◌∷◌, IsNone, IsSome};
 ghost use Rattle.core_state.specs.Registers.{saved_and_masked, restored};
 ghost use Rattle.duo_machine.specs.declared.machine.Phase.TheVariants.{Resting, Running, Owning, Asking, Quiet, Parked};
+ghost use Rattle.duo_machine.specs.declared.events.Kind.TheVariants as kinds;
 ghost use Rattle.park_words.specs.Views.{in_phase, in_phase_holding, seat_saw};
 ghost use Rattle.cache_gate.specs.Works.{Worked};
 ghost use Rattle.cache_gate.specs.Own.{held_of, kept, to_phase, later_on};
@@ -193,7 +194,7 @@ fn lock<R: Wait, D: Crash, K: Duty>(
     requires unsaved { IsNone seat.old.view.registers.saved }
     requires rested { (seat.old.view.turn ≡ false) × (seat.old.view.stepping ≡ false) }
     ensures exact { held_of seat.new ≡ to_phase (held_of seat.old) Owning seat.new.view.seen }
-    ensures works { Worked [] seat.old.view seat.new.view }
+    ensures works { Worked (kinds.Take ∷ []) seat.old.view seat.new.view }
 {
     for _ in rt.forever() {
         if let Ok(()) = words.take_lock(seat) {
@@ -205,7 +206,6 @@ fn lock<R: Wait, D: Crash, K: Duty>(
 }
 
 /// The core takes the lock, masks itself, and is quiet once the other one is out of the way.
-#[tactic(auto, using(crate::proofs::Walks::works_first))]
 pub(crate) fn enter<R: Wait, D: Crash, K: Duty>(
     rt: &R,
     words: &Words<Bus<D, K>>,
@@ -217,7 +217,7 @@ pub(crate) fn enter<R: Wait, D: Crash, K: Duty>(
     requires rested { (seat.old.view.turn ≡ false) × (seat.old.view.stepping ≡ false) }
     ensures exact { held_of seat.new ≡ to_phase (kept (held_of seat.old)
         (saved_and_masked seat.old.view.registers) seat.new.view.seen) Quiet seat.new.view.seen }
-    ensures works { Worked [] seat.old.view seat.new.view }
+    ensures works { Worked (kinds.Take ∷ []) seat.old.view seat.new.view }
 {
     lock(rt, words, seat);
     save(rt, words, seat);
@@ -237,7 +237,7 @@ pub(crate) fn calm<R: Wait, D: Crash, K: Duty>(
     requires rested { (seat.old.view.turn ≡ false) × (seat.old.view.stepping ≡ false) }
     ensures exact { held_of seat.new ≡ to_phase (kept (held_of seat.old)
         (restored seat.old.view.registers) seat.new.view.seen) Running seat.new.view.seen }
-    ensures works { Worked [] seat.old.view seat.new.view }
+    ensures works { Worked (kinds.Give ∷ []) seat.old.view seat.new.view }
 {
     words.end(seat);
     back(rt, words, seat);

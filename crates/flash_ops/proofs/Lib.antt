@@ -5,3 +5,4 @@ pub mod Changes
 pub mod Can
 pub mod Pieces
 pub mod Bytes
+pub mod PeriodLemmas

@@ -140,11 +140,11 @@ pages_are at len some = by (len == 0) refl
     by true is = absurd (grind (arith, nat_tests))
     by false is = rw is refl
 
-few_pages : (at len : ℕ) → 1 ≤ len → len ≤ 4096 - at % 256
+pub few_pages : (at len : ℕ) → 1 ≤ len → len ≤ 4096 - at % 256
     → (1 ≤ pages_in at len) × (pages_in at len ≤ 16)
 few_pages at len some few = let n = pages_are at len some in (omega arith, omega arith)
 
-all_pages : (at len : ℕ) → len ≡ 4096 - at % 256 → pages_in at len ≡ 16
+pub all_pages : (at len : ℕ) → len ≡ 4096 - at % 256 → pages_in at len ≡ 16
 all_pages at len is = let n = pages_are at len (omega arith) in omega arith
 
 -- bytes of one quiet period

@@ -1,11 +1,12 @@
 //! Writes and erases of a partition.
 
-ghost use Rattle.std.specs.Prelude.{◌≡◌, ◌+◌, ◌%◌, length, IfOk, IfErr, Err};
-ghost use Rattle.cache_gate.specs.Own.{Keeps};
+ghost use Rattle.std.specs.Prelude.{◌≡◌, ◌+◌, ◌%◌, [], length, IfOk, IfErr, Err};
+ghost use Rattle.cache_gate.specs.Own.{HasShown, Keeps};
 ghost use Rattle.flash_steps.specs.Parts.{part_erase_steps, part_write_steps};
 ghost use Rattle.flash_steps.specs.Steps.{erase_steps, write_steps};
 ghost use Rattle.flash_steps.specs.Rules.{erase_checked, write_checked};
 ghost use Rattle.flash_ops.specs.Asked.{CanChange};
+ghost use Rattle.flash_ops.specs.Periods.{HasPeriods, erase_periods, write_periods};
 ghost use Rattle.flash_ops.specs.Told.{HasChanged, barred_by, unbarred};
 
 use crate::erasing::erase;
@@ -37,6 +38,10 @@ pub fn part_write<'w, R: Wait, D: Crash, K: Duty>(
     ensures ran { IfOk (write_checked table.now label.now offset (length bytes.now))
         (λ _. HasChanged k (part_write_steps table.now label.now offset bytes.now) result.1
         core.entry result.0) }
+    ensures shows { IfErr (write_checked table.now label.now offset (length bytes.now))
+        (λ _. HasShown [] core.entry result.0) }
+    ensures periods { IfOk (write_checked table.now label.now offset (length bytes.now))
+        (λ row. HasPeriods (write_periods (row.offset + offset) bytes.now) result.1 core.entry result.0) }
 {
     match check_write(table, label, offset, bytes.len()) {
         Ok(row) => write_at(rt, core, k, row.offset + offset, bytes),
@@ -65,6 +70,10 @@ pub fn part_erase<'w, R: Wait, D: Crash, K: Duty>(
     ensures ran { IfOk (erase_checked table.now label.now offset len)
         (λ _. HasChanged k (part_erase_steps table.now label.now offset len) result.1
         core.entry result.0) }
+    ensures shows { IfErr (erase_checked table.now label.now offset len)
+        (λ _. HasShown [] core.entry result.0) }
+    ensures periods { IfOk (erase_checked table.now label.now offset len)
+        (λ _. HasPeriods (erase_periods len) result.1 core.entry result.0) }
 {
     match check_erase(table, label, offset, len) {
         Ok(row) => erase_at(rt, core, k, row.offset + offset, len),
@@ -81,7 +90,8 @@ fn write_at<'w, R: Wait, D: Crash, K: Duty>(
     bytes: &[u8],
 ) -> (Core<'w, D, K>, Result<(), OpNo>)
     requires { CanChange K.part K.grants K.moved at (length bytes.now) (write_steps at bytes.now) core }
-    ensures { HasChanged k (write_steps at bytes.now) result.1 core.entry result.0 }
+    ensures ran { HasChanged k (write_steps at bytes.now) result.1 core.entry result.0 }
+    ensures periods { HasPeriods (write_periods at bytes.now) result.1 core.entry result.0 }
 {
     let mut beat = Beat {
         pace: &NoPace,
@@ -102,7 +112,8 @@ fn erase_at<'w, R: Wait, D: Crash, K: Duty>(
 ) -> (Core<'w, D, K>, Result<(), OpNo>)
     requires can { CanChange K.part K.grants K.moved at len (erase_steps at len) core }
     requires aligned { (at % 4096 ≡ 0) × (len % 4096 ≡ 0) }
-    ensures { HasChanged k (erase_steps at len) result.1 core.entry result.0 }
+    ensures ran { HasChanged k (erase_steps at len) result.1 core.entry result.0 }
+    ensures periods { HasPeriods (erase_periods len) result.1 core.entry result.0 }
 {
     let mut beat = Beat {
         pace: &NoPace,

@@ -1,8 +1,9 @@
 //! Around a quiet period: the pace, the count, and the look behind it.
 
-ghost use Rattle.std.specs.Prelude.{◌≡◌, Some, OnOk};
+ghost use Rattle.std.specs.Prelude.{◌≡◌, [], Some, OnOk};
 ghost use Rattle.bus_hub.specs.declared.did.Base.{Base};
 ghost use Rattle.bus_hub.specs.declared.did.Did.{Did};
+ghost use Rattle.cache_gate.specs.Own.{HasShown};
 ghost use Rattle.flash_ops.specs.Moves.{HasRun, looks};
 ghost use Rattle.flash_ops.specs.Asked.{CanLook, HasRoomFor};
 ghost use Rattle.flash_ops.specs.Told.{LooksBehind, counted, fault_of};
@@ -31,6 +32,7 @@ pub(crate) fn end<P: Pace>(beat: &Beat<'_, P>) {
 }
 
 /// Looks at the probe, if there is one, where all before it was made.
+#[tactic(auto, using(crate::proofs::PeriodLemmas::shown_none))]
 pub(crate) fn look_behind<R: Wait, D: Crash, K: Duty>(
     rt: &R,
     core: &mut Core<'_, D, K>,
@@ -40,7 +42,8 @@ pub(crate) fn look_behind<R: Wait, D: Crash, K: Duty>(
 ) -> Result<(), NorFault>
     requires look { CanLook core.old.base core.old.regs probe }
     requires room { OnOk made (HasRoomFor core.old.base core.old.core core.old.share (looks probe)) }
-    ensures { LooksBehind k probe made result core.old core.new }
+    ensures looks { LooksBehind k probe made result core.old core.new }
+    ensures shows { HasShown [] core.old core.new }
 {
     made?;
     match probe {
@@ -58,7 +61,8 @@ fn look<R: Wait, D: Crash, K: Duty>(
 ) -> Result<(), NorFault>
     requires look { CanLook core.old.base core.old.regs (Some at) }
     requires room { HasRoomFor core.old.base core.old.core core.old.share (looks (Some at)) }
-    ensures { HasRun k (looks (Some at)) result core.old core.new }
+    ensures ran { HasRun k (looks (Some at)) result core.old core.new }
+    ensures shows { HasShown [] core.old core.new }
 {
     match core.fetch(rt, k, at, 4) {
         Ok(()) => Ok(()),

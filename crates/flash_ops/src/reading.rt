@@ -4,6 +4,7 @@ ghost use Rattle.std.specs.Prelude.{◌≡◌, ℕ, ◌+◌, ◌<◌, ◌^◌, [
 ghost use Rattle.cache_gate.specs.Own.{IsInside};
 ghost use Rattle.flash_ops.specs.Moves.{Ask, HasRun, read_moves};
 ghost use Rattle.flash_ops.specs.Shown.{AreBytesOf};
+ghost use Rattle.flash_ops.specs.Periods.{HasPeriod, HasPeriods, read_periods};
 ghost use Rattle.flash_ops.specs.Told.{fault_of};
 
 use crate::periods::answer;
@@ -32,6 +33,7 @@ pub fn read<'w, R: Wait, D: Crash, K: Duty>(
     requires small { at + length out.old < 2 ^ 32 }
     ensures ran { (k : ℕ) → HasRun k (read_moves (length out.old)) (fault_of result.1)
         core.entry result.0 }
+    ensures periods { HasPeriods (read_periods (length out.old)) result.1 core.entry result.0 }
     ensures length { length out.new ≡ length out.old }
     ensures bytes { OnOk result.1 (AreBytesOf ⟦<Bus<D, K> as Records>⟧.stands (λ h. D.bytes h.dev)
         core.entry.base core.entry.core core.entry.share at out.new) }
@@ -59,6 +61,7 @@ fn read_period<'w, R: Wait, D: Crash, K: Duty>(
 ) -> (Core<'w, D, K>, Result<(), NorFault>)
     requires inside { IsInside core.base (at + length out.old) }
     ensures ran { (k : ℕ) → HasRun k (Ask ∷ []) result.1 core.entry result.0 }
+    ensures period { HasPeriod 0 result.1 core.entry result.0 }
     ensures length { length out.new ≡ length out.old }
     ensures bytes { OnOk result.1 (AreBytesOf ⟦<Bus<D, K> as Records>⟧.stands (λ h. D.bytes h.dev)
         core.entry.base core.entry.core core.entry.share at out.new) }

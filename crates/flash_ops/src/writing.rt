@@ -7,6 +7,7 @@ ghost use Rattle.cache_gate.specs.Own.{IsInside};
 ghost use Rattle.flash_steps.specs.Steps.{write_steps};
 ghost use Rattle.flash_ops.specs.Moves.{HasRun, looks, makes, periods_of, write_moves};
 ghost use Rattle.flash_ops.specs.Asked.{CanRun};
+ghost use Rattle.flash_ops.specs.Periods.{HasPeriod, HasPeriods, HasShownSteps, write_periods};
 ghost use Rattle.flash_ops.specs.Told.{CountsPeriods, counted, fault_of};
 
 use crate::pace::{Beat, Pace};
@@ -45,6 +46,7 @@ pub fn write<'w, R: Wait, D: Crash, K: Duty, P: Pace>(
     ensures pace { beat.new.pace ≡ beat.old.pace }
     ensures ops { CountsPeriods (periods_of (write_steps at bytes.now)) result.1
         beat.old.ops beat.new.ops }
+    ensures periods { HasPeriods (write_periods at bytes.now) result.1 core.entry result.0 }
 {
     let mut core = core;
     let mut at = at;
@@ -93,6 +95,7 @@ fn write_period<'w, R: Wait, D: Crash, K: Duty, P: Pace>(
     ensures probe { beat.new.probe ≡ beat.old.probe }
     ensures pace { beat.new.pace ≡ beat.old.pace }
     ensures ops { beat.new.ops ≡ counted beat.old.ops 1 }
+    ensures period { HasPeriod (length (write_steps at bytes.now)) result.1 core.entry result.0 }
 {
     begin(beat);
     let mut quiet = core.enter(rt);
@@ -114,7 +117,8 @@ fn program<R: Wait, D: Crash, K: Duty>(
     requires inside { IsInside quiet.old.base (at + length bytes.now) }
     requires small { at + length bytes.now < 2 ^ 32 }
     requires can { CanRun K.part K.grants K.moved (makes (write_steps at bytes.now)) None quiet.old }
-    ensures { HasRun k (makes (write_steps at bytes.now)) result quiet.old quiet.new }
+    ensures ran { HasRun k (makes (write_steps at bytes.now)) result quiet.old quiet.new }
+    ensures shows { HasShownSteps (length (write_steps at bytes.now)) result quiet.old quiet.new }
 {
     let mut at = at;
     let mut rest = bytes;

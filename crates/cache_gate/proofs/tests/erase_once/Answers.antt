@@ -6,6 +6,6 @@ pub returns : goal.returns
 returns g c =
     spends_before c.args.core c.leave-core.result c.serve_gate.new.self 2 0
     (spends_before c.args.core c.step.new.self c.leave-core.result 2 0
-    (spends_after c.args.core c.enter-quiet.result c.step.new.self 2 0 c.enter-quiet.ensures
-    (step_spends c.enter-quiet.result c.step.new.self _ _ c.step.result c.step.ensures))
-    c.leave-core.ensures) c.serve_gate.ensures
+    (spends_after c.args.core c.enter-quiet.result c.step.new.self 2 0 c.enter-quiet.ensures.keeps
+    (step_spends c.enter-quiet.result c.step.new.self _ _ c.step.result c.step.ensures.adds))
+    c.leave-core.ensures.keeps) c.serve_gate.ensures.keeps

@@ -6,4 +6,4 @@ pub returns : goal.returns
 returns g c =
     spends_before c.args.core.now c.fetch.new.self c.serve_gate.new.self 1 4
     (fetch_spends c.args.core.now c.fetch.new.self c.args.k _ 4 c.fetch.result
-    c.fetch.ensures.adds) c.serve_gate.ensures
+    c.fetch.ensures.adds) c.serve_gate.ensures.keeps

@@ -1,5 +1,5 @@
 use Rattle.duo_machine.specs.declared.events.Kind.{Kind}
-use Rattle.cache_gate.specs.Works.{Works}
+use Rattle.cache_gate.specs.Works.{Tells}
 use Rattle.cache_gate.proofs.Walks.{works_first, note_works}
 use Rattle.std.proofs.Common.{rules, sym, subst, List, []}
 use Rattle.cache_gate.proofs.Taken.{notes, room_taken}
@@ -22,7 +22,7 @@ returns-clause-works g c =
     let u = c.args.seat.now.view in
     let v = c.take-bus.new.seat.view in
     let w = c.give.new.seat.view in
-    subst (λ (l : List Kind). Works l u.core u.seen w.core w.seen) (sym (note_works c.args.k c.args.seat.now.view.registers.regs
+    subst (λ (l : List Kind). Tells l u.core u.seen w.core w.seen) (sym (note_works c.args.k c.args.seat.now.view.registers.regs
     c.args.act c.requires.note))
     (works_first [] u.core v.core w.core u.seen v.seen w.seen c.take-bus.ensures.works
     c.give.ensures.works)

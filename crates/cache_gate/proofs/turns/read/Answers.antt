@@ -1,6 +1,6 @@
 use Rattle.std.proofs.Common.{rules, sym, subst, List, []}
 use Rattle.duo_machine.specs.declared.events.Kind.{Kind}
-use Rattle.cache_gate.specs.Works.{Works}
+use Rattle.cache_gate.specs.Works.{Tells}
 use Rattle.cache_gate.proofs.Walks.{works_first, asked_works}
 use Rattle.cache_gate.proofs.Taken.{reads, read_part}
 use Rattle.cache_gate.proofs.turns.read.Goals as goal
@@ -17,7 +17,7 @@ returns-clause-works g c =
     let u = c.args.seat.now.view in
     let v = c.take-bus.new.seat.view in
     let w = c.give.new.seat.view in
-    subst (λ (l : List Kind). Works l u.core u.seen w.core w.seen) (sym (asked_works c.read-answer.result))
+    subst (λ (l : List Kind). Tells l u.core u.seen w.core w.seen) (sym (asked_works c.read-answer.result))
     (works_first [] u.core v.core w.core u.seen v.seen w.seen c.take-bus.ensures.works
     c.give.ensures.works)
 

@@ -19,7 +19,7 @@ pub returns-in-Err-Unmapped : goal.returns-in-Err-Unmapped
 returns-in-Err-Unmapped g c =
     λ rows. fetch_missed rows c.args.k c.args.at c.args.len c.args.core c.fetch.new.self
     c.note.new.self (rw c.in-Err-Unmapped.field-0-is at c.in-Err-Unmapped.ensures.adds)
-    c.note.ensures
+    c.note.ensures.adds
 
 pub returns-in-Err-Masked : goal.returns-in-Err-Masked
 returns-in-Err-Masked g c =
@@ -27,4 +27,4 @@ returns-in-Err-Masked g c =
     c.note-in-Err-Masked.new.self (rw c.in-Err-Masked.field-0-is at c.in-Err-Masked.ensures.adds)
     (masked_out c.args.core.regs.mask c.args.at c.fetch.result
     (c.in-Err-Masked.is ∙ ap Err c.in-Err-Masked.field-0-is) c.fetch.ensures.masked)
-    c.note-in-Err-Masked.ensures
+    c.note-in-Err-Masked.ensures.adds

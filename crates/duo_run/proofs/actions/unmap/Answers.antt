@@ -7,11 +7,11 @@ use Rattle.duo_run.proofs.actions.unmap.Goals as goal
 pub note-requires-clause-room : goal.note-requires-clause-room
 note-requires-clause-room g c =
     mark_room c.args.core c.unmap-answer.new.self (Unmapping c.args.at c.unmap-answer.result) 0 refl
-    refl c.requires.room c.unmap-answer.ensures
+    refl c.requires.room c.unmap-answer.ensures.adds
 
 -- the entry stands behind it
 pub returns : goal.returns
 returns g c =
     λ rows. pages_freed rows c.args.k c.args.at c.unmap-answer.result c.unmapped.result c.args.core
-    c.unmap-answer.new.self c.note.new.self c.unmapped.ensures.exact c.unmap-answer.ensures
-    c.note.ensures
+    c.unmap-answer.new.self c.note.new.self c.unmapped.ensures.exact c.unmap-answer.ensures.adds
+    c.note.ensures.adds

@@ -6,7 +6,7 @@ use Rattle.duo_run.proofs.job.run_driver.Goals as goal
 pub drive-core-requires : goal.drive-core-requires
 drive-core-requires g c = record {
   can = drive_kept c.args.layout.now (purpose_of c.args.job.now) c.args.probe c.args.core
-      c.start.result c.start.ensures c.requires.can;
+      c.start.result c.start.ensures.keeps c.requires.can;
 }
 
 -- from rest to rest it only did it
@@ -15,4 +15,4 @@ returns g c =
     rw c.ended.ensures
     (driven_kept c.args.layout.now (purpose_of c.args.job.now) c.args.probe
     c.drive-core.result.1 c.args.core c.start.result c.drive-core.result.0 c.rest.result
-    c.start.ensures c.drive-core.ensures c.rest.ensures)
+    c.start.ensures.keeps c.drive-core.ensures c.rest.ensures.keeps)

@@ -8,4 +8,4 @@ returns g c =
     rw c.ended.ensures
     (worked_kept c.args.table.now 1 c.args.script.now (fault_of c.work-core.result.1) c.args.core
     c.start.result c.work-core.result.0 c.rest.result
-    c.start.ensures c.work-core.ensures c.rest.ensures)
+    c.start.ensures.keeps c.work-core.ensures c.rest.ensures.keeps)

@@ -28,7 +28,7 @@ loop-i-preserved g c =
     c.action-action.result c.args.core c.loop-i.core c.serve_gate.new.self
     c.action-action.ensures.exact c.action-action.ensures.bounds c.loop-i.invariant
     (acted_keeps c.args.table.now _ c.action-action.result _ c.loop-i.core c.act-next.result.0
-    c.serve_gate.new.self (rw c.in_default.is at c.act-next.ensures) c.serve_gate.ensures)
+    c.serve_gate.new.self (rw c.in_default.is at c.act-next.ensures) c.serve_gate.ensures.keeps)
 
 -- none is left
 pub returns : goal.returns

@@ -1,4 +1,5 @@
 use Rattle.std.proofs.Common.{◌≡◌, ◌+◌, ◌-◌, ◌/◌, ◌∙◌, ap, sym, subst, refl, arith, ℕ, suc, List, ◌∷◌, Option, Result, Ok}
+use Rattle.std.specs.Prelude.{replicate}
 use Rattle.nor_device.specs.declared.step.Step.TheVariants.{Erase}
 use Rattle.nor_device.specs.declared.nor.NorFault.{NorFault}
 use Rattle.flash_ops.specs.Moves.{Move, Make, HasRun, looks, erase_moves}
@@ -7,6 +8,8 @@ use Rattle.flash_ops.proofs.Runs.{base_same, left_all, left_none, left_stops, le
 use Rattle.flash_ops.proofs.Can.{can_first, can_then}
 use Rattle.flash_ops.proofs.Pieces.{all_sectors, next_sector, no_sector, sectors_left}
 use Rattle.flash_ops.proofs.Counts.{counting_all, counting_none, counting_one, counting_stops}
+use Rattle.flash_ops.specs.Periods.{HasPeriod, erase_periods}
+use Rattle.flash_ops.proofs.PeriodLemmas.{erase_periods_all, no_sector_period, passed_all, passed_none, passed_one, passed_stops, sector_period}
 use Rattle.flash_ops.proofs.erasing.erase.Goals as goal
 
 -- at first all sectors are left
@@ -27,6 +30,8 @@ loop-i-init g c =
       probe = refl;
       pace = refl;
       ops = counting_none count (count - 0) c.args.beat.now.ops all;
+      passed = passed_none (erase_periods c.args.len) (replicate (count - 0) 1) c.args.core
+          (erase_periods_all c.args.len);
     }
 
 -- the first of those that are left
@@ -80,6 +85,19 @@ returns-in-Err-clause-ops g c =
     (counting_one count (count - i) (count - (i + 1)) c.args.beat.now.ops c.loop-i.beat.ops
     c.erase_period-next.new.beat.ops more inv.ops c.erase_period-next.ensures.ops)
 
+-- in its quiet period
+pub returns-in-Err-clause-periods : goal.returns-in-Err-clause-periods
+returns-in-Err-clause-periods g c =
+    let core = c.loop-i.core in
+    let next = c.erase_period-next.result.0 in
+    let i = c.loop-i.i in
+    let count = c.args.len / 4096 in
+    passed_stops (erase_periods c.args.len) (replicate (count - i) 1)
+    (replicate (count - (i + 1)) 1) 1 c.answer.result c.in-Err.why c.args.core core next
+    c.answer.ensures.exact (sector_period count i c.loop-i-test.true) c.loop-i.invariant.passed
+    (subst (λ (z : Result (Unit {0}) NorFault). HasPeriod 1 z core next) c.in-Err.is
+    c.erase_period-next.ensures.period)
+
 -- one sector more was erased
 pub loop-i-preserved : goal.loop-i-preserved
 loop-i-preserved g c =
@@ -112,6 +130,11 @@ loop-i-preserved g c =
       pace = c.erase_period-next.ensures.pace ∙ inv.pace;
       ops = counting_one count (count - i) (count - (i + 1)) c.args.beat.now.ops c.loop-i.beat.ops
           c.erase_period-next.new.beat.ops more inv.ops c.erase_period-next.ensures.ops;
+      passed = passed_one (erase_periods c.args.len) (replicate (count - i) 1)
+          (replicate (count - (i + 1)) 1) 1 c.args.core core next (sector_period count i within)
+          inv.passed
+          (subst (λ (z : Result (Unit {0}) NorFault). HasPeriod 1 z core next) c.in_default.is
+          c.erase_period-next.ensures.period);
     }
 
 -- no sector is left
@@ -132,3 +155,10 @@ returns-clause-ops g c =
     let none : count - c.loop-i.i ≡ 0 = omega (arith, c.loop-i-test.false) in
     counting_all count (count - c.loop-i.i) c.args.beat.now.ops c.loop-i.beat.ops none
     c.loop-i.invariant.ops
+
+pub returns-clause-periods : goal.returns-clause-periods
+returns-clause-periods g c =
+    let left = c.args.len / 4096 - c.loop-i.i in
+    let none : left ≡ 0 = omega (arith, c.loop-i-test.false) in
+    passed_all (erase_periods c.args.len) (replicate left 1) c.args.core c.loop-i.core
+    (no_sector_period left none) c.loop-i.invariant.passed

@@ -1,9 +1,12 @@
 use Rattle.std.proofs.Common.{◌≡◌, ◌-◌}
+use Rattle.std.specs.Prelude.{replicate}
 use Rattle.flash_ops.specs.Moves.{erase_moves}
 use Rattle.flash_ops.specs.Asked.{CanRun}
 use Rattle.flash_ops.proofs.Runs.{Left}
 use Rattle.flash_ops.proofs.Counts.{Counting}
 use Rattle.flash_ops.proofs.Pieces.{sectors_left}
+use Rattle.flash_ops.specs.Periods.{erase_periods}
+use Rattle.flash_ops.proofs.PeriodLemmas.{Passed}
 use Rattle.flash_ops.proofs.erasing.erase.Given as goal
 
 -- the sectors from this one on are left of all
@@ -16,4 +19,5 @@ invariant-loop-i g l = let d = g.K.Duty in let probe = l.fn.beat.probe in record
   probe : l.beat.probe ≡ probe;
   pace : l.beat.pace ≡ l.fn.beat.pace;
   ops : Counting l.count (l.count - l.i) l.fn.beat.ops l.beat.ops;
+  passed : Passed (erase_periods l.fn.len) (replicate (l.count - l.i) 1) l.fn.core l.core;
 }

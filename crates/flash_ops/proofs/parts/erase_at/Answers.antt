@@ -4,6 +4,8 @@ use Rattle.flash_ops.specs.Moves.{Move, erase_moves}
 use Rattle.flash_ops.specs.Asked.{CanRun}
 use Rattle.flash_ops.proofs.Pieces.{blind_erase}
 use Rattle.flash_ops.proofs.Changes.{changed_by}
+use Rattle.flash_ops.specs.Periods.{erase_periods}
+use Rattle.flash_ops.proofs.PeriodLemmas.{periods_unbarred}
 use Rattle.flash_ops.proofs.parts.erase_at.Goals as goal
 
 -- without a look, the moves are the steps
@@ -12,8 +14,13 @@ erase-core-requires-clause-can g c = let d = g.K.Duty in
     subst (λ (m : List Move). CanRun d.part d.grants d.moved m None c.args.core)
     (sym (blind_erase c.args.at c.args.len)) c.requires.can.can
 
-pub returns : goal.returns
-returns g c =
+pub returns-clause-ran : goal.returns-clause-ran
+returns-clause-ran g c =
     changed_by c.args.k (erase_steps c.args.at c.args.len) c.args.core c.erase-core.result.0
     (erase_moves None c.args.at c.args.len) c.erase-core.result.1 c.changed.result
     (blind_erase c.args.at c.args.len) c.changed.ensures.exact c.erase-core.ensures.ran
+
+pub returns-clause-periods : goal.returns-clause-periods
+returns-clause-periods g c =
+    periods_unbarred (erase_periods c.args.len) c.erase-core.result.1 c.changed.result
+    c.args.core c.erase-core.result.0 c.changed.ensures.exact c.erase-core.ensures.periods

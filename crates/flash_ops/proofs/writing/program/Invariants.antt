@@ -4,6 +4,7 @@ use Rattle.flash_steps.specs.Steps.{write_steps}
 use Rattle.flash_ops.specs.Moves.{makes}
 use Rattle.flash_ops.specs.Asked.{CanRun}
 use Rattle.flash_ops.proofs.Runs.{Left}
+use Rattle.flash_ops.proofs.PeriodLemmas.{Stepping}
 use Rattle.flash_ops.proofs.writing.program.Given as goal
 
 -- the programs of the bytes that are left are left of all
@@ -13,6 +14,8 @@ invariant-loop-step g l = let d = g.K.Duty in record {
   small : l.at + length l.rest < 2 ^ 32;
   can : CanRun d.part d.grants d.moved (makes (write_steps l.at l.rest)) None l.quiet;
   left : Left l.k (makes (write_steps l.fn.at l.fn.bytes)) (makes (write_steps l.at l.rest))
+      l.fn.quiet l.quiet;
+  stepping : Stepping (length (write_steps l.fn.at l.fn.bytes)) (length (write_steps l.at l.rest))
       l.fn.quiet l.quiet;
 }
 

@@ -9,6 +9,8 @@ use Rattle.flash_ops.proofs.Runs.{left_all, left_none, left_stops, left_then}
 use Rattle.flash_ops.proofs.Can.{can_first, can_then, inside_run}
 use Rattle.flash_ops.proofs.Pieces.{length_cut, periods_cut, periods_done, write_done, write_period_cut}
 use Rattle.flash_ops.proofs.Counts.{counting_all, counting_none, counting_one, counting_stops}
+use Rattle.flash_ops.specs.Periods.{HasPeriod, write_periods}
+use Rattle.flash_ops.proofs.PeriodLemmas.{passed_all, passed_none, passed_one, passed_stops, write_periods_cut, write_periods_done}
 use Rattle.flash_ops.proofs.writing.write.Goals as goal
 
 -- at first all is left
@@ -24,6 +26,8 @@ loop-rest-init g c =
       probe = refl;
       pace = refl;
       ops = counting_none count count c.args.beat.now.ops refl;
+      passed = passed_none (write_periods c.args.at c.args.bytes.now)
+          (write_periods c.args.at c.args.bytes.now) c.args.core refl;
     }
 
 -- the first quiet period of what is left
@@ -93,6 +97,26 @@ returns-in-Err-clause-ops g c =
     (periods_cut at bytes first rest some c.split_at_period.ensures.first
     c.split_at_period.ensures.rest) inv.ops c.write_period-next.ensures.ops)
 
+-- in its quiet period
+pub returns-in-Err-clause-periods : goal.returns-in-Err-clause-periods
+returns-in-Err-clause-periods g c =
+    let core = c.loop-rest.core in
+    let next = c.write_period-next.result.0 in
+    let at = c.loop-rest.at in
+    let bytes = c.loop-rest.rest.now in
+    let first = c.split_at_period.result.0.now in
+    let rest = c.split_at_period.result.1.now in
+    let some : 1 ≤ length bytes =
+    grind (arith, nat_tests, c.is_empty.ensures, c.loop-rest-test.true) in
+    let n = length (write_steps at first) in
+    passed_stops (write_periods c.args.at c.args.bytes.now) (write_periods at bytes)
+    (write_periods (at + length first) rest) n c.answer.result c.in-Err.why c.args.core core next
+    c.answer.ensures.exact
+    (write_periods_cut at bytes first rest some c.split_at_period.ensures.first
+    c.split_at_period.ensures.rest) c.loop-rest.invariant.passed
+    (subst (λ (z : Result (Unit {0}) NorFault). HasPeriod n z core next) c.in-Err.is
+    c.write_period-next.ensures.period)
+
 -- one quiet period more was made
 pub loop-rest-preserved : goal.loop-rest-preserved
 loop-rest-preserved g c =
@@ -137,6 +161,12 @@ loop-rest-preserved g c =
           c.args.beat.now.ops c.loop-rest.beat.ops c.write_period-next.new.beat.ops
           (periods_cut at bytes first rest some c.split_at_period.ensures.first
           c.split_at_period.ensures.rest) inv.ops c.write_period-next.ensures.ops;
+      passed = passed_one (write_periods c.args.at c.args.bytes.now) (write_periods at bytes)
+          (write_periods (at + length first) rest) (length (write_steps at first)) c.args.core core
+          next (write_periods_cut at bytes first rest some c.split_at_period.ensures.first
+          c.split_at_period.ensures.rest) inv.passed
+          (subst (λ (z : Result (Unit {0}) NorFault). HasPeriod (length (write_steps at first)) z
+          core next) c.in_default.is c.write_period-next.ensures.period);
     }
 
 -- nothing is left
@@ -157,3 +187,11 @@ returns-clause-ops g c =
     (periods_of (write_steps c.loop-rest.at c.loop-rest.rest.now)) c.args.beat.now.ops
     c.loop-rest.beat.ops (periods_done c.loop-rest.at c.loop-rest.rest.now none)
     c.loop-rest.invariant.ops
+
+pub returns-clause-periods : goal.returns-clause-periods
+returns-clause-periods g c =
+    let none : length c.loop-rest.rest.now ≡ 0 =
+    grind (arith, nat_tests, c.is_empty.ensures, c.loop-rest-test.false) in
+    passed_all (write_periods c.args.at c.args.bytes.now)
+    (write_periods c.loop-rest.at c.loop-rest.rest.now) c.args.core c.loop-rest.core
+    (write_periods_done c.loop-rest.at c.loop-rest.rest.now none) c.loop-rest.invariant.passed

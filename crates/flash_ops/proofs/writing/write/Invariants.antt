@@ -5,6 +5,8 @@ use Rattle.flash_ops.specs.Moves.{periods_of, write_moves}
 use Rattle.flash_ops.specs.Asked.{CanRun}
 use Rattle.flash_ops.proofs.Runs.{Left}
 use Rattle.flash_ops.proofs.Counts.{Counting}
+use Rattle.flash_ops.specs.Periods.{write_periods}
+use Rattle.flash_ops.proofs.PeriodLemmas.{Passed}
 use Rattle.flash_ops.proofs.writing.write.Given as goal
 
 -- the moves of the bytes that are left are left of all
@@ -19,6 +21,7 @@ invariant-loop-rest g l = let d = g.K.Duty in let probe = l.fn.beat.probe in rec
   pace : l.beat.pace ≡ l.fn.beat.pace;
   ops : Counting (periods_of (write_steps l.fn.at l.fn.bytes))
       (periods_of (write_steps l.at l.rest)) l.fn.beat.ops l.beat.ops;
+  passed : Passed (write_periods l.fn.at l.fn.bytes) (write_periods l.at l.rest) l.fn.core l.core;
 }
 
 abbrev pub decreases-loop-rest : goal.decreases-loop-rest

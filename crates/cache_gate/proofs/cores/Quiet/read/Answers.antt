@@ -1,7 +1,8 @@
-use Rattle.std.proofs.Common.{subst}
+use Rattle.std.proofs.Common.{subst, []}
 use Rattle.std.specs.Prelude.{OnOk, IfSome}
 use Rattle.bus_hub.specs.Hub.{Stands}
-use Rattle.cache_gate.specs.Own.{held_of, IsPartOf}
+use Rattle.cache_gate.specs.Own.{held_of, own_of, HasShown, IsPartOf}
+use Rattle.cache_gate.proofs.Walks.{shows_asked}
 use Rattle.cache_gate.proofs.States.{stays_quiet}
 use Rattle.cache_gate.proofs.cores.Quiet.read.Goals as goal
 
@@ -19,3 +20,8 @@ returns-clause-bytes g c =
     n.faults n.setting n.may_end n.may_tear n.may_refuse n.must_refuse k.part k.grants k.after
     k.good) (λ h. n.bytes h.dev) b o.core o.share c.args.at c.read.new.out))) c.self.view_is
     c.read.ensures.bytes
+
+pub returns-clause-shows : goal.returns-clause-shows
+returns-clause-shows g c =
+    subst (λ (o : _). HasShown [] o (own_of (held_of c.read.new.seat))) c.self.view_is
+    (shows_asked c.read.result _ _ _ _ c.read.ensures.works)
