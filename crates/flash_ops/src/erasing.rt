@@ -5,7 +5,7 @@ ghost use Rattle.nor_device.specs.declared.step.Step.TheVariants.{Erase};
 ghost use Rattle.cache_gate.specs.Own.{IsInside};
 ghost use Rattle.flash_ops.specs.Moves.{HasRun, Make, erase_moves, looks};
 ghost use Rattle.flash_ops.specs.Asked.{CanRun};
-ghost use Rattle.flash_ops.specs.Told.{CountsPeriods, counted, fault_of};
+ghost use Rattle.flash_ops.specs.Told.{CountsPeriods, ToldOf, counted, fault_of};
 
 use crate::pace::{Beat, Pace};
 use crate::periods::{answer, begin, end, look_behind};
@@ -41,6 +41,7 @@ pub fn erase<'w, R: Wait, D: Crash, K: Duty, P: Pace>(
     ensures probe { beat.new.probe ≡ beat.old.probe }
     ensures pace { beat.new.pace ≡ beat.old.pace }
     ensures ops { CountsPeriods (len / 4096) result.1 beat.old.ops beat.new.ops }
+    ensures told { ToldOf (P.told beat.old.pace.now) beat.old.ops beat.new.ops }
 {
     let mut core = core;
     let first = at / SECTOR;
@@ -71,6 +72,7 @@ fn erase_period<'w, R: Wait, D: Crash, K: Duty, P: Pace>(
     ensures probe { beat.new.probe ≡ beat.old.probe }
     ensures pace { beat.new.pace ≡ beat.old.pace }
     ensures ops { beat.new.ops ≡ counted beat.old.ops 1 }
+    ensures told { ToldOf (P.told beat.old.pace.now) beat.old.ops beat.new.ops }
 {
     begin(beat);
     let mut quiet = core.enter(rt);

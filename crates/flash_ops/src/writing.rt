@@ -7,7 +7,7 @@ ghost use Rattle.cache_gate.specs.Own.{IsInside};
 ghost use Rattle.flash_steps.specs.Steps.{write_steps};
 ghost use Rattle.flash_ops.specs.Moves.{HasRun, looks, makes, periods_of, write_moves};
 ghost use Rattle.flash_ops.specs.Asked.{CanRun};
-ghost use Rattle.flash_ops.specs.Told.{CountsPeriods, counted, fault_of};
+ghost use Rattle.flash_ops.specs.Told.{CountsPeriods, ToldOf, counted, fault_of};
 
 use crate::pace::{Beat, Pace};
 use crate::periods::{answer, begin, end, look_behind};
@@ -45,6 +45,7 @@ pub fn write<'w, R: Wait, D: Crash, K: Duty, P: Pace>(
     ensures pace { beat.new.pace ≡ beat.old.pace }
     ensures ops { CountsPeriods (periods_of (write_steps at bytes.now)) result.1
         beat.old.ops beat.new.ops }
+    ensures told { ToldOf (P.told beat.old.pace.now) beat.old.ops beat.new.ops }
 {
     let mut core = core;
     let mut at = at;
@@ -93,6 +94,7 @@ fn write_period<'w, R: Wait, D: Crash, K: Duty, P: Pace>(
     ensures probe { beat.new.probe ≡ beat.old.probe }
     ensures pace { beat.new.pace ≡ beat.old.pace }
     ensures ops { beat.new.ops ≡ counted beat.old.ops 1 }
+    ensures told { ToldOf (P.told beat.old.pace.now) beat.old.ops beat.new.ops }
 {
     begin(beat);
     let mut quiet = core.enter(rt);

@@ -7,6 +7,7 @@ use Rattle.flash_ops.proofs.Runs.{base_same, left_all, left_none, left_stops, le
 use Rattle.flash_ops.proofs.Can.{can_first, can_then}
 use Rattle.flash_ops.proofs.Pieces.{all_sectors, next_sector, no_sector, sectors_left}
 use Rattle.flash_ops.proofs.Counts.{counting_all, counting_none, counting_one, counting_stops}
+use Rattle.flash_ops.proofs.Telling.{told_none, told_then}
 use Rattle.flash_ops.proofs.erasing.erase.Goals as goal
 
 -- at first all sectors are left
@@ -27,6 +28,7 @@ loop-i-init g c =
       probe = refl;
       pace = refl;
       ops = counting_none count (count - 0) c.args.beat.now.ops all;
+      told = told_none (g.P.Pace.told c.args.beat.now.pace.now) c.args.beat.now.ops c.args.beat.now.ops refl;
     }
 
 -- the first of those that are left
@@ -80,6 +82,14 @@ returns-in-Err-clause-ops g c =
     (counting_one count (count - i) (count - (i + 1)) c.args.beat.now.ops c.loop-i.beat.ops
     c.erase_period-next.new.beat.ops more inv.ops c.erase_period-next.ensures.ops)
 
+-- and told
+pub returns-in-Err-clause-told : goal.returns-in-Err-clause-told
+returns-in-Err-clause-told g c =
+    let inv = c.loop-i.invariant in
+    told_then (λ p. g.P.Pace.told p.now) c.args.beat.now.pace c.loop-i.beat.pace
+    c.args.beat.now.ops c.loop-i.beat.ops c.erase_period-next.new.beat.ops inv.pace inv.told
+    c.erase_period-next.ensures.told
+
 -- one sector more was erased
 pub loop-i-preserved : goal.loop-i-preserved
 loop-i-preserved g c =
@@ -112,6 +122,9 @@ loop-i-preserved g c =
       pace = c.erase_period-next.ensures.pace ∙ inv.pace;
       ops = counting_one count (count - i) (count - (i + 1)) c.args.beat.now.ops c.loop-i.beat.ops
           c.erase_period-next.new.beat.ops more inv.ops c.erase_period-next.ensures.ops;
+      told = told_then (λ p. g.P.Pace.told p.now) c.args.beat.now.pace c.loop-i.beat.pace
+          c.args.beat.now.ops c.loop-i.beat.ops c.erase_period-next.new.beat.ops inv.pace inv.told
+          c.erase_period-next.ensures.told;
     }
 
 -- no sector is left

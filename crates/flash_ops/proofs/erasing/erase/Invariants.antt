@@ -1,6 +1,7 @@
 use Rattle.std.proofs.Common.{◌≡◌, ◌-◌}
 use Rattle.flash_ops.specs.Moves.{erase_moves}
 use Rattle.flash_ops.specs.Asked.{CanRun}
+use Rattle.flash_ops.specs.Told.{ToldOf}
 use Rattle.flash_ops.proofs.Runs.{Left}
 use Rattle.flash_ops.proofs.Counts.{Counting}
 use Rattle.flash_ops.proofs.Pieces.{sectors_left}
@@ -16,4 +17,5 @@ invariant-loop-i g l = let d = g.K.Duty in let probe = l.fn.beat.probe in record
   probe : l.beat.probe ≡ probe;
   pace : l.beat.pace ≡ l.fn.beat.pace;
   ops : Counting l.count (l.count - l.i) l.fn.beat.ops l.beat.ops;
+  told : ToldOf (g.P.Pace.told l.fn.beat.pace.now) l.fn.beat.ops l.beat.ops;
 }

@@ -9,6 +9,7 @@ use Rattle.flash_ops.proofs.Runs.{left_all, left_none, left_stops, left_then}
 use Rattle.flash_ops.proofs.Can.{can_first, can_then, inside_run}
 use Rattle.flash_ops.proofs.Pieces.{length_cut, periods_cut, periods_done, write_done, write_period_cut}
 use Rattle.flash_ops.proofs.Counts.{counting_all, counting_none, counting_one, counting_stops}
+use Rattle.flash_ops.proofs.Telling.{told_none, told_then}
 use Rattle.flash_ops.proofs.writing.write.Goals as goal
 
 -- at first all is left
@@ -24,6 +25,7 @@ loop-rest-init g c =
       probe = refl;
       pace = refl;
       ops = counting_none count count c.args.beat.now.ops refl;
+      told = told_none (g.P.Pace.told c.args.beat.now.pace.now) c.args.beat.now.ops c.args.beat.now.ops refl;
     }
 
 -- the first quiet period of what is left
@@ -93,6 +95,14 @@ returns-in-Err-clause-ops g c =
     (periods_cut at bytes first rest some c.split_at_period.ensures.first
     c.split_at_period.ensures.rest) inv.ops c.write_period-next.ensures.ops)
 
+-- and told
+pub returns-in-Err-clause-told : goal.returns-in-Err-clause-told
+returns-in-Err-clause-told g c =
+    let inv = c.loop-rest.invariant in
+    told_then (λ p. g.P.Pace.told p.now) c.args.beat.now.pace c.loop-rest.beat.pace
+    c.args.beat.now.ops c.loop-rest.beat.ops c.write_period-next.new.beat.ops inv.pace inv.told
+    c.write_period-next.ensures.told
+
 -- one quiet period more was made
 pub loop-rest-preserved : goal.loop-rest-preserved
 loop-rest-preserved g c =
@@ -137,6 +147,9 @@ loop-rest-preserved g c =
           c.args.beat.now.ops c.loop-rest.beat.ops c.write_period-next.new.beat.ops
           (periods_cut at bytes first rest some c.split_at_period.ensures.first
           c.split_at_period.ensures.rest) inv.ops c.write_period-next.ensures.ops;
+      told = told_then (λ p. g.P.Pace.told p.now) c.args.beat.now.pace c.loop-rest.beat.pace
+          c.args.beat.now.ops c.loop-rest.beat.ops c.write_period-next.new.beat.ops inv.pace inv.told
+          c.write_period-next.ensures.told;
     }
 
 -- nothing is left
