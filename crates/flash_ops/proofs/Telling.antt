@@ -1,5 +1,5 @@
 -- Points that a pace was told of, one call behind the other.
-use Rattle.std.proofs.Common.{◌≡◌, ◌≤◌, ◌<◌, ℕ, inl, inr, subst, arith}
+use Rattle.std.proofs.Common.{◌≡◌, ℕ, inl, inr, subst, arith}
 use Rattle.std.proofs.lemmas.Bool.{cases_lt}
 use Rattle.flash_ops.specs.declared.pace.Point.{Point}
 use Rattle.flash_ops.specs.declared.pace.Point.TheVariants.{DriverOp, DriverOpDone}
