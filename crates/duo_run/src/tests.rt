@@ -30,6 +30,8 @@ struct Counts {
 }
 
 impl Pace for Counts {
+    ghost told = { λ pace point. Unit {0} };
+
     fn at(&self, point: Point) {
         let next = match point {
             Point::WorkerAct(k) => k.wrapping_mul(2).wrapping_sub(1),

@@ -460,6 +460,8 @@ struct Meeting {
 }
 
 impl Pace for Meeting {
+    ghost told = { λ pace point. Unit {0} };
+
     fn at(&self, point: Point) {
         match point {
             Point::DriverOp(1) => meet(&self.driver, &self.worker, &self.missed),

@@ -1,5 +1,5 @@
 -- The answers of the calls.
-use Rattle.std.specs.Prelude.{◌≡◌, ℕ, zero, suc, ◌+◌, ◌-◌, ◌^◌, ◌≤◌, min, List, Option, Result, Ok, Err}
+use Rattle.std.specs.Prelude.{◌≡◌, ℕ, zero, suc, ◌+◌, ◌-◌, ◌^◌, ◌≤◌, ◌<◌, min, List, Option, Result, Ok, Err}
 use Rattle.nor_device.specs.declared.step.Step.{Step}
 use Rattle.nor_device.specs.declared.nor.NorFault.{NorFault}
 use Rattle.nor_device.specs.declared.nor.NorFault.TheVariants.{Failed, Off}
@@ -7,6 +7,8 @@ use Rattle.flash_steps.specs.declared.refusal.PartNo.{PartNo}
 use Rattle.flash_steps.specs.declared.refusal.PartNo.TheVariants as parts
 use Rattle.bus_hub.specs.declared.did.Did.{Did}
 use Rattle.cache_gate.specs.Own.{Own}
+use Rattle.flash_ops.specs.declared.pace.Point.{Point}
+use Rattle.flash_ops.specs.declared.pace.Point.TheVariants.{DriverOp, DriverOpDone}
 use Rattle.flash_ops.specs.declared.refusal.StepNo.{StepNo}
 use Rattle.flash_ops.specs.declared.refusal.StepNo.TheVariants.{Device, Cut}
 use Rattle.flash_ops.specs.declared.refusal.OpNo.{OpNo}
@@ -69,3 +71,9 @@ pub record IsCountedUpTo (most before now : ℕ) : Type 0 where
 abbrev pub CountsPeriods : ℕ → Result (Unit {0}) StepNo → ℕ → ℕ → Type 0
 CountsPeriods n (Ok _) before now = now ≡ counted before n
 CountsPeriods n (Err why) before now = IsCountedUpTo n before now
+
+-- of each quiet period that was counted from one count to another, the pace was told of the begin and
+-- of the end
+abbrev pub ToldOf : (Point → Type 0) → ℕ → ℕ → Type 0
+ToldOf told before now =
+    (n : ℕ) → before < n → n ≤ now → told (DriverOp n) × told (DriverOpDone n)

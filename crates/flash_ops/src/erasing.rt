@@ -6,7 +6,7 @@ ghost use Rattle.cache_gate.specs.Own.{IsInside};
 ghost use Rattle.flash_ops.specs.Moves.{HasRun, Make, erase_moves, looks};
 ghost use Rattle.flash_ops.specs.Asked.{CanRun};
 ghost use Rattle.flash_ops.specs.Periods.{HasPeriod, HasPeriods, erase_periods};
-ghost use Rattle.flash_ops.specs.Told.{CountsPeriods, counted, fault_of};
+ghost use Rattle.flash_ops.specs.Told.{CountsPeriods, ToldOf, counted, fault_of};
 
 use crate::pace::{Beat, Pace};
 use crate::periods::{answer, begin, end, look_behind};
@@ -43,6 +43,7 @@ pub fn erase<'w, R: Wait, D: Crash, K: Duty, P: Pace>(
     ensures pace { beat.new.pace ≡ beat.old.pace }
     ensures ops { CountsPeriods (len / 4096) result.1 beat.old.ops beat.new.ops }
     ensures periods { HasPeriods (erase_periods len) result.1 core.entry result.0 }
+    ensures told { ToldOf (P.told beat.old.pace.now) beat.old.ops beat.new.ops }
 {
     let mut core = core;
     let first = at / SECTOR;
@@ -74,6 +75,7 @@ fn erase_period<'w, R: Wait, D: Crash, K: Duty, P: Pace>(
     ensures pace { beat.new.pace ≡ beat.old.pace }
     ensures ops { beat.new.ops ≡ counted beat.old.ops 1 }
     ensures period { HasPeriod 1 result.1 core.entry result.0 }
+    ensures told { ToldOf (P.told beat.old.pace.now) beat.old.ops beat.new.ops }
 {
     begin(beat);
     let mut quiet = core.enter(rt);

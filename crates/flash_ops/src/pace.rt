@@ -1,5 +1,7 @@
 //! A pace that is told how far both cores are, and what a core carries along for it.
 
+ghost use Rattle.flash_ops.specs.declared.pace.Point.{Point};
+
 /// A moment of a leg: before or behind the driver's n-th quiet period that has a step, or before or
 /// behind the worker's k-th action. Both are counted from 1.
 #[derive(Clone, Copy, Debug, PartialEq, Eq)]
@@ -15,7 +17,12 @@ pub enum Point {
 /// A core that is in `at` serves no gate, so a pace must not wait there for the other core's quiet
 /// period to end.
 pub trait Pace {
-    fn at(&self, point: Point);
+    /// The pace was told of the point: a fact that `at` alone gives.
+    ghost told: { Self → Point → Type 0 };
+
+    /// Tells the pace of the point.
+    fn at(&self, point: Point)
+        ensures told { told self.now point };
 }
 
 /// Returns at once.
@@ -23,6 +30,8 @@ pub trait Pace {
 pub struct NoPace;
 
 impl Pace for NoPace {
+    ghost told = { λ pace point. Unit {0} };
+
     fn at(&self, _point: Point) {}
 }
 

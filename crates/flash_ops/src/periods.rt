@@ -4,6 +4,7 @@ ghost use Rattle.std.specs.Prelude.{◌≡◌, [], Some, OnOk};
 ghost use Rattle.bus_hub.specs.declared.did.Base.{Base};
 ghost use Rattle.bus_hub.specs.declared.did.Did.{Did};
 ghost use Rattle.cache_gate.specs.Own.{HasShown};
+ghost use Rattle.flash_ops.specs.declared.pace.Point.TheVariants.{DriverOp, DriverOpDone};
 ghost use Rattle.flash_ops.specs.Moves.{HasRun, looks};
 ghost use Rattle.flash_ops.specs.Asked.{CanLook, HasRoomFor};
 ghost use Rattle.flash_ops.specs.Told.{LooksBehind, counted, fault_of};
@@ -21,13 +22,16 @@ pub(crate) fn begin<P: Pace>(beat: &mut Beat<'_, P>)
     ensures ops { beat.new.ops ≡ counted beat.old.ops 1 }
     ensures probe { beat.new.probe ≡ beat.old.probe }
     ensures pace { beat.new.pace ≡ beat.old.pace }
+    ensures told { P.told beat.old.pace.now (DriverOp beat.new.ops) }
 {
     beat.ops = beat.ops.saturating_add(1);
     beat.pace.at(Point::DriverOp(beat.ops));
 }
 
 /// It has ended.
-pub(crate) fn end<P: Pace>(beat: &Beat<'_, P>) {
+pub(crate) fn end<P: Pace>(beat: &Beat<'_, P>)
+    ensures told { P.told beat.now.pace.now (DriverOpDone beat.now.ops) }
+{
     beat.pace.at(Point::DriverOpDone(beat.ops));
 }
 

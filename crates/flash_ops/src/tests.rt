@@ -31,6 +31,8 @@ struct Trace {
 }
 
 impl Pace for Trace {
+    ghost told = { λ pace point. Unit {0} };
+
     fn at(&self, point: Point) {
         let digit = match point {
             Point::DriverOp(n) => u64::from(n),

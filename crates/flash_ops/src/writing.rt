@@ -8,7 +8,7 @@ ghost use Rattle.flash_steps.specs.Steps.{write_steps};
 ghost use Rattle.flash_ops.specs.Moves.{HasRun, looks, makes, periods_of, write_moves};
 ghost use Rattle.flash_ops.specs.Asked.{CanRun};
 ghost use Rattle.flash_ops.specs.Periods.{HasPeriod, HasPeriods, HasShownSteps, write_periods};
-ghost use Rattle.flash_ops.specs.Told.{CountsPeriods, counted, fault_of};
+ghost use Rattle.flash_ops.specs.Told.{CountsPeriods, ToldOf, counted, fault_of};
 
 use crate::pace::{Beat, Pace};
 use crate::periods::{answer, begin, end, look_behind};
@@ -47,6 +47,7 @@ pub fn write<'w, R: Wait, D: Crash, K: Duty, P: Pace>(
     ensures ops { CountsPeriods (periods_of (write_steps at bytes.now)) result.1
         beat.old.ops beat.new.ops }
     ensures periods { HasPeriods (write_periods at bytes.now) result.1 core.entry result.0 }
+    ensures told { ToldOf (P.told beat.old.pace.now) beat.old.ops beat.new.ops }
 {
     let mut core = core;
     let mut at = at;
@@ -96,6 +97,7 @@ fn write_period<'w, R: Wait, D: Crash, K: Duty, P: Pace>(
     ensures pace { beat.new.pace ≡ beat.old.pace }
     ensures ops { beat.new.ops ≡ counted beat.old.ops 1 }
     ensures period { HasPeriod (length (write_steps at bytes.now)) result.1 core.entry result.0 }
+    ensures told { ToldOf (P.told beat.old.pace.now) beat.old.ops beat.new.ops }
 {
     begin(beat);
     let mut quiet = core.enter(rt);

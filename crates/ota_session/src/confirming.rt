@@ -4,6 +4,7 @@ ghost use Rattle.std.specs.Prelude.{◌≡◌, IfErr, IfOk, Ok, Err};
 ghost use Rattle.bus_hub.specs.declared.did.Base.{Base};
 ghost use Rattle.flash_ops.specs.Asked.{CanLook, HasRoomFor};
 ghost use Rattle.flash_ops.specs.Moves.{HasRun};
+ghost use Rattle.flash_ops.specs.Told.{ToldOf};
 ghost use Rattle.ota_session.specs.Stages.{IsToConfirm, confirm_moves};
 ghost use Rattle.ota_session.specs.SessionTold.{HasCounted, cause_of};
 
@@ -38,6 +39,7 @@ pub fn confirm<'w, 'a, R: Wait, D: Crash, P: Pace>(
     ensures probe { beat.new.probe ≡ beat.old.probe }
     ensures pace { beat.new.pace ≡ beat.old.pace }
     ensures ops { HasCounted 2 result beat.old.ops beat.new.ops }
+    ensures told { ToldOf (P.told beat.old.pace.now) beat.old.ops beat.new.ops }
 {
     let (core, made) = rewrite_entry(rt, core, beat, layout.otadata, rewrite);
     match made {

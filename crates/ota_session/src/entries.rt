@@ -6,7 +6,7 @@ ghost use Rattle.boot_run.specs.Rewriting.{rewrite};
 ghost use Rattle.cache_gate.specs.Own.{IsInside};
 ghost use Rattle.flash_ops.specs.Asked.{CanLook, HasRoomFor, MayMakeAll};
 ghost use Rattle.flash_ops.specs.Moves.{HasRun};
-ghost use Rattle.flash_ops.specs.Told.{CountsPeriods, fault_of};
+ghost use Rattle.flash_ops.specs.Told.{CountsPeriods, ToldOf, fault_of};
 ghost use Rattle.ota_session.specs.Course.{Grants, part_after, part_of};
 ghost use Rattle.ota_session.specs.Stages.{entry_moves};
 
@@ -40,6 +40,7 @@ pub(crate) fn rewrite_entry<'w, 'a, R: Wait, D: Crash, P: Pace>(
     ensures probe { beat.new.probe ≡ beat.old.probe }
     ensures pace { beat.new.pace ≡ beat.old.pace }
     ensures ops { CountsPeriods 2 result.1 beat.old.ops beat.new.ops }
+    ensures told { ToldOf (P.told beat.old.pace.now) beat.old.ops beat.new.ops }
 {
     let at = otadata + SECTOR_SIZE * u32::from(change.sector);
     let mut bytes = [0; 32];

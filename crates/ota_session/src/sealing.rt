@@ -5,6 +5,7 @@ ghost use Rattle.std.specs.Prelude.{◌≡◌, ◌+◌, ◌≤◌, ◌<◌, ◌^
 ghost use Rattle.bus_hub.specs.declared.did.Base.{Base};
 ghost use Rattle.flash_ops.specs.Asked.{CanLook, HasRoomFor};
 ghost use Rattle.flash_ops.specs.Moves.{HasRun};
+ghost use Rattle.flash_ops.specs.Told.{ToldOf};
 ghost use Rattle.ota_session.specs.Stages.{IsVerified, IsWriting, entry_moves, image_of};
 ghost use Rattle.ota_session.specs.SessionTold.{HasCounted, HasVerified, IsNotVerified, cause_of, unread_by};
 
@@ -116,6 +117,7 @@ impl<'w, 'a, D: Crash> Sealed<'w, D, UpdateDuty<'a>> {
         ensures probe { beat.new.probe ≡ beat.old.probe }
         ensures pace { beat.new.pace ≡ beat.old.pace }
         ensures ops { HasCounted 2 result beat.old.ops beat.new.ops }
+        ensures told { ToldOf (P.told beat.old.pace.now) beat.old.ops beat.new.ops }
     {
         let Sealed { core, target } = self;
         let (core, made) = rewrite_entry(rt, core, beat, target.otadata, &target.next);

@@ -10,6 +10,7 @@ use Rattle.flash_ops.proofs.Pieces.{all_sectors, next_sector, no_sector, sectors
 use Rattle.flash_ops.proofs.Counts.{counting_all, counting_none, counting_one, counting_stops}
 use Rattle.flash_ops.specs.Periods.{HasPeriod, erase_periods}
 use Rattle.flash_ops.proofs.PeriodLemmas.{erase_periods_all, no_sector_period, passed_all, passed_none, passed_one, passed_stops, sector_period}
+use Rattle.flash_ops.proofs.Telling.{told_none, told_then}
 use Rattle.flash_ops.proofs.erasing.erase.Goals as goal
 
 -- at first all sectors are left
@@ -32,6 +33,7 @@ loop-i-init g c =
       ops = counting_none count (count - 0) c.args.beat.now.ops all;
       passed = passed_none (erase_periods c.args.len) (replicate (count - 0) 1) c.args.core
           (erase_periods_all c.args.len);
+      told = told_none (g.P.Pace.told c.args.beat.now.pace.now) c.args.beat.now.ops c.args.beat.now.ops refl;
     }
 
 -- the first of those that are left
@@ -98,6 +100,14 @@ returns-in-Err-clause-periods g c =
     (subst (λ (z : Result (Unit {0}) NorFault). HasPeriod 1 z core next) c.in-Err.is
     c.erase_period-next.ensures.period)
 
+-- and told
+pub returns-in-Err-clause-told : goal.returns-in-Err-clause-told
+returns-in-Err-clause-told g c =
+    let inv = c.loop-i.invariant in
+    told_then (λ p. g.P.Pace.told p.now) c.args.beat.now.pace c.loop-i.beat.pace
+    c.args.beat.now.ops c.loop-i.beat.ops c.erase_period-next.new.beat.ops inv.pace inv.told
+    c.erase_period-next.ensures.told
+
 -- one sector more was erased
 pub loop-i-preserved : goal.loop-i-preserved
 loop-i-preserved g c =
@@ -135,6 +145,9 @@ loop-i-preserved g c =
           inv.passed
           (subst (λ (z : Result (Unit {0}) NorFault). HasPeriod 1 z core next) c.in_default.is
           c.erase_period-next.ensures.period);
+      told = told_then (λ p. g.P.Pace.told p.now) c.args.beat.now.pace c.loop-i.beat.pace
+          c.args.beat.now.ops c.loop-i.beat.ops c.erase_period-next.new.beat.ops inv.pace inv.told
+          c.erase_period-next.ensures.told;
     }
 
 -- no sector is left

@@ -2,6 +2,7 @@ use Rattle.std.proofs.Common.{◌≡◌, ◌-◌}
 use Rattle.std.specs.Prelude.{replicate}
 use Rattle.flash_ops.specs.Moves.{erase_moves}
 use Rattle.flash_ops.specs.Asked.{CanRun}
+use Rattle.flash_ops.specs.Told.{ToldOf}
 use Rattle.flash_ops.proofs.Runs.{Left}
 use Rattle.flash_ops.proofs.Counts.{Counting}
 use Rattle.flash_ops.proofs.Pieces.{sectors_left}
@@ -20,4 +21,5 @@ invariant-loop-i g l = let d = g.K.Duty in let probe = l.fn.beat.probe in record
   pace : l.beat.pace ≡ l.fn.beat.pace;
   ops : Counting l.count (l.count - l.i) l.fn.beat.ops l.beat.ops;
   passed : Passed (erase_periods l.fn.len) (replicate (l.count - l.i) 1) l.fn.core l.core;
+  told : ToldOf (g.P.Pace.told l.fn.beat.pace.now) l.fn.beat.ops l.beat.ops;
 }

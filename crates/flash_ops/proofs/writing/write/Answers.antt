@@ -11,6 +11,7 @@ use Rattle.flash_ops.proofs.Pieces.{length_cut, periods_cut, periods_done, write
 use Rattle.flash_ops.proofs.Counts.{counting_all, counting_none, counting_one, counting_stops}
 use Rattle.flash_ops.specs.Periods.{HasPeriod, write_periods}
 use Rattle.flash_ops.proofs.PeriodLemmas.{passed_all, passed_none, passed_one, passed_stops, write_periods_cut, write_periods_done}
+use Rattle.flash_ops.proofs.Telling.{told_none, told_then}
 use Rattle.flash_ops.proofs.writing.write.Goals as goal
 
 -- at first all is left
@@ -28,6 +29,7 @@ loop-rest-init g c =
       ops = counting_none count count c.args.beat.now.ops refl;
       passed = passed_none (write_periods c.args.at c.args.bytes.now)
           (write_periods c.args.at c.args.bytes.now) c.args.core refl;
+      told = told_none (g.P.Pace.told c.args.beat.now.pace.now) c.args.beat.now.ops c.args.beat.now.ops refl;
     }
 
 -- the first quiet period of what is left
@@ -117,6 +119,14 @@ returns-in-Err-clause-periods g c =
     (subst (λ (z : Result (Unit {0}) NorFault). HasPeriod n z core next) c.in-Err.is
     c.write_period-next.ensures.period)
 
+-- and told
+pub returns-in-Err-clause-told : goal.returns-in-Err-clause-told
+returns-in-Err-clause-told g c =
+    let inv = c.loop-rest.invariant in
+    told_then (λ p. g.P.Pace.told p.now) c.args.beat.now.pace c.loop-rest.beat.pace
+    c.args.beat.now.ops c.loop-rest.beat.ops c.write_period-next.new.beat.ops inv.pace inv.told
+    c.write_period-next.ensures.told
+
 -- one quiet period more was made
 pub loop-rest-preserved : goal.loop-rest-preserved
 loop-rest-preserved g c =
@@ -167,6 +177,9 @@ loop-rest-preserved g c =
           c.split_at_period.ensures.rest) inv.passed
           (subst (λ (z : Result (Unit {0}) NorFault). HasPeriod (length (write_steps at first)) z
           core next) c.in_default.is c.write_period-next.ensures.period);
+      told = told_then (λ p. g.P.Pace.told p.now) c.args.beat.now.pace c.loop-rest.beat.pace
+          c.args.beat.now.ops c.loop-rest.beat.ops c.write_period-next.new.beat.ops inv.pace inv.told
+          c.write_period-next.ensures.told;
     }
 
 -- nothing is left

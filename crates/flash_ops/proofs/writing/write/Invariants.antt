@@ -3,6 +3,7 @@ use Rattle.cache_gate.specs.Own.{IsInside}
 use Rattle.flash_steps.specs.Steps.{write_steps}
 use Rattle.flash_ops.specs.Moves.{periods_of, write_moves}
 use Rattle.flash_ops.specs.Asked.{CanRun}
+use Rattle.flash_ops.specs.Told.{ToldOf}
 use Rattle.flash_ops.proofs.Runs.{Left}
 use Rattle.flash_ops.proofs.Counts.{Counting}
 use Rattle.flash_ops.specs.Periods.{write_periods}
@@ -22,6 +23,7 @@ invariant-loop-rest g l = let d = g.K.Duty in let probe = l.fn.beat.probe in rec
   ops : Counting (periods_of (write_steps l.fn.at l.fn.bytes))
       (periods_of (write_steps l.at l.rest)) l.fn.beat.ops l.beat.ops;
   passed : Passed (write_periods l.fn.at l.fn.bytes) (write_periods l.at l.rest) l.fn.core l.core;
+  told : ToldOf (g.P.Pace.told l.fn.beat.pace.now) l.fn.beat.ops l.beat.ops;
 }
 
 abbrev pub decreases-loop-rest : goal.decreases-loop-rest

@@ -2,6 +2,7 @@
 use Rattle.std.proofs.Common.{ℕ, ◌+◌, ◌*◌, ap, arith}
 use Rattle.flash_steps.specs.Steps.{write_steps}
 use Rattle.flash_ops.specs.Moves.{periods_of}
+use Rattle.flash_ops.proofs.Telling.{told_then}
 use Rattle.ota_session.proofs.CountLemmas.{counted_err, counted_ok, counted_within, counts_on, entry_periods}
 use Rattle.ota_session.proofs.EntryLemmas.{can_erase, can_program, has_rewritten, not_erased}
 use Rattle.ota_session.proofs.entries.rewrite_entry.Goals as goal
@@ -50,3 +51,10 @@ returns-clause-ops g c =
     c.erase-core.new.beat.ops c.write.new.beat.ops c.write.result.1 (omega (arith, one))
     (counted_ok 1 c.args.beat.now.ops c.erase-core.new.beat.ops c.erase-core.result.1
     c.erase-core.ensures.ops c.in_default.field-0 c.in_default.is) c.write.ensures.ops
+
+-- and its points are told behind those of the erase
+pub returns-clause-told : goal.returns-clause-told
+returns-clause-told g c =
+    told_then (λ p. g.P.Pace.told p.now) c.args.beat.now.pace c.erase-core.new.beat.pace
+    c.args.beat.now.ops c.erase-core.new.beat.ops c.write.new.beat.ops c.erase-core.ensures.pace
+    c.erase-core.ensures.told c.write.ensures.told
