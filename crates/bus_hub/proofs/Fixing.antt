@@ -1,6 +1,6 @@
 -- What was fixed at the opening is fixed now, and so ranges in it can be fetched.
-use Rattle.std.specs.Prelude.{◌≡◌, ℕ, ◌+◌, ◌-◌, ◌*◌, ◌<◌, ◌≤◌, Bool, List, length, Option, Some, None, refl}
-use Rattle.std.proofs.Common.{◌∙◌, sym, ap, subst, arith}
+use Rattle.std.specs.Prelude.{◌≡◌, ℕ, ◌+◌, ◌-◌, ◌*◌, ◌≤◌, Bool, List, length, Option, Some, None, refl}
+use Rattle.std.proofs.Common.{sym, ap, subst, arith}
 use Rattle.nor_device.specs.declared.step.Step.{Step}
 use Rattle.nor_device.specs.declared.nor.StepEnd.{StepEnd}
 use Rattle.nor_device.specs.declared.nor.NorFault.{NorFault}
@@ -15,7 +15,7 @@ use Rattle.bus_hub.specs.declared.did.Did.{Did}
 use Rattle.bus_hub.specs.declared.did.Did.TheVariants.{Opened, Closed, Broken, Fetched, Noted, Denied, Mapping, Unmapping, Missed, Masked}
 use Rattle.bus_hub.specs.declared.did.Base.{Base}
 use Rattle.bus_hub.specs.Fetch.{IsFixed, IsInFlash, IsUnmapped}
-use Rattle.bus_hub.specs.Log.{State, Rule, change, made_whole, reached}
+use Rattle.bus_hub.specs.Log.{State, Rule, change, made_whole}
 use Rattle.bus_hub.specs.Hub.{Hub, Stands, begun}
 use Rattle.bus_hub.proofs.Logs.{kept}
 use Rattle.bus_hub.proofs.Stops.{size_now}

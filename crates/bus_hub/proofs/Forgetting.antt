@@ -1,5 +1,5 @@
 -- What stands by a duty stands by one that allows every step.
-use Rattle.std.specs.Prelude.{◌≡◌, ℕ, zero, suc, ◌<◌, Bool, false, List, [], ◌∷◌, Option, Some, None, refl}
+use Rattle.std.specs.Prelude.{◌≡◌, ℕ, zero, suc, Bool, false, List, [], ◌∷◌, Option, Some, None, refl}
 use Rattle.std.proofs.Common.{◌∙◌, ap, sym, subst}
 use Rattle.nor_device.specs.declared.step.Step.{Step}
 use Rattle.nor_device.specs.declared.nor.StepEnd.{StepEnd}
@@ -10,8 +10,8 @@ use Rattle.bus_hub.specs.declared.did.Did.{Did}
 use Rattle.bus_hub.specs.declared.did.Did.TheVariants.{Opened, Closed, Broken, Fetched, Noted, Denied, Mapping, Unmapping, Missed, Masked}
 use Rattle.bus_hub.specs.declared.did.Base.{Base}
 use Rattle.bus_hub.specs.declared.entry.Act.TheVariants.{Close}
-use Rattle.bus_hub.specs.Log.{Item, State, Rule, Ruled, Stood, change, entry_of, made_whole, reached, with_one}
-use Rattle.bus_hub.specs.Hub.{Fits, Hub, Stands, begun, state_of}
+use Rattle.bus_hub.specs.Log.{Item, State, Rule, Ruled, change, entry_of, made_whole, reached, with_one}
+use Rattle.bus_hub.specs.Hub.{Fits, Hub, Stands, begun}
 
 -- a duty that no step changes
 abbrev pub Still : {L : Type 0} → L → ℕ → Step → L

@@ -32,7 +32,7 @@ use Rattle.bus_hub.specs.declared.did.Running.{Running as Going}
 use Rattle.bus_hub.specs.declared.entry.Act.{Act}
 use Rattle.bus_hub.specs.declared.entry.Act.TheVariants.{Set as SetAct}
 use Rattle.bus_hub.specs.Room.{HasRoom as HasRoomNow}
-use Rattle.bus_hub.specs.Fetch.{space_at, IsServed, IsFixed, IsUnmapped}
+use Rattle.bus_hub.specs.Fetch.{space_at, IsFixed, IsUnmapped}
 use Rattle.bus_hub.specs.Fetch as serving
 use Rattle.bus_hub.specs.Log.{run_of}
 use Rattle.bus_hub.specs.Hub.{Hub, Fits, record_of, with_record, noted, core_of, needs, byte_needs, owed}

@@ -1,5 +1,5 @@
 -- Where a leg begins: its duty is good, and both cores can do what they are to.
-use Rattle.std.proofs.Common.{◌≡◌, ◌≢◌, ◌⊎◌, inl, inr, ℕ, zero, suc, ◌+◌, ◌*◌, ◌/◌, ◌%◌, ◌^◌, ◌<◌, ◌≤◌, List, [], ◌∷◌, length, take, drop, Option, Some, None, IfSome, IsSome, Ok, refl, sym, ap, subst, ◌∙◌, arith}
+use Rattle.std.proofs.Common.{◌≡◌, ◌≢◌, inl, inr, ℕ, zero, suc, ◌+◌, ◌*◌, ◌^◌, ◌<◌, ◌≤◌, List, [], length, take, drop, Option, Some, None, IfSome, refl, sym, ap, subst, ◌∙◌, arith}
 use Rattle.std.specs.Int.{IsBitSet}
 use Rattle.std.proofs.lemmas.List.{length-take-le, length-drop}
 use Rattle.core_state.specs.Registers.{reset}
@@ -21,20 +21,18 @@ use Rattle.image_layout.specs.declared.space.Space.{Space}
 use Rattle.image_layout.specs.declared.space.Space.TheVariants.{Data, Code}
 use Rattle.image_verify.specs.declared.info.SegmentNote.{SegmentNote}
 use Rattle.mmu_map.specs.Map.{Map}
-use Rattle.boot_run.specs.declared.aims.Aim.{Aim}
 use Rattle.boot_run.proofs.FrameLemmas.{stands_inside}
 use Rattle.bus_hub.specs.declared.did.Base.{Base}
 use Rattle.bus_hub.specs.declared.did.Did.{Did}
 use Rattle.bus_hub.specs.declared.journal.Room.{Room}
-use Rattle.bus_hub.specs.Fetch.{IsFixed, IsServed, bit_of, space_at}
+use Rattle.bus_hub.specs.Fetch.{IsFixed, bit_of, space_at}
 use Rattle.cache_gate.specs.Own.{HasRoomIn, IsFirst, Own}
 use Rattle.core_script.specs.declared.action.Action.{Action}
-use Rattle.update_steps.specs.Session.{IsOpening}
 use Rattle.update_steps.proofs.DataLemmas.{aligned_row}
 use Rattle.update_steps.proofs.TableLemmas.{layout_placed, table_fits}
 use Rattle.flash_ops.specs.Asked.{CanLook}
 use Rattle.flash_ops.specs.Moves.{steps_of}
-use Rattle.ota_session.specs.Course.{Confirm, Confirms, Course, Grants, Install, Installs, IsFor, IsGood, IsMadeFor, Purpose, course_from, part_after, part_of, steps_for}
+use Rattle.ota_session.specs.Course.{Confirm, Confirms, Course, Grants, Install, IsFor, IsGood, Purpose, course_from, part_after, part_of, steps_for}
 use Rattle.ota_session.proofs.MoveLemmas.{steps_of_entry}
 use Rattle.ota_session.proofs.OpeningLemmas.{opening_good}
 use Rattle.ota_session.proofs.PartLemmas.{other_may}

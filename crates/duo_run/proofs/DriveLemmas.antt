@@ -1,6 +1,5 @@
 -- The job of the driver from rest to rest.
-use Rattle.std.proofs.Common.{◌≡◌, ℕ, List, [], Option, Result, sym, subst}
-use Rattle.nor_device.specs.declared.nor.NorFault.{NorFault}
+use Rattle.std.proofs.Common.{ℕ, Option, Result, sym, subst}
 use Rattle.partition_table.specs.Layout.{Places}
 use Rattle.bus_hub.specs.declared.did.Base.{Base}
 use Rattle.bus_hub.specs.declared.did.Did.{Did}

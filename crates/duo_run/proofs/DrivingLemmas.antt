@@ -1,6 +1,6 @@
 -- A session that is driven from its begin to its end: its moves, and the room for those to come.
-use Rattle.std.proofs.Common.{◌≡◌, ◌≢◌, ◌⊎◌, inl, inr, ℕ, zero, suc, ◌+◌, ◌-◌, ◌%◌, ◌<◌, ◌≤◌, Bool, true, false, List, [], ◌∷◌, ◌++◌, length, take, drop, Option, Some, None, IfOk, IfSome, Result, Ok, Err, refl, sym, ap, ◌∙◌, subst, arith, append-nil}
-use Rattle.std.specs.Prelude.{◌==◌, ◌&&◌, not, if◌then◌else◌, slice_get}
+use Rattle.std.proofs.Common.{◌≡◌, ℕ, ◌+◌, Bool, true, false, List, [], ◌∷◌, ◌++◌, length, take, Option, Some, None, IfOk, IfSome, Result, Ok, Err, refl, sym, ap, ◌∙◌, subst, arith}
+use Rattle.std.specs.Prelude.{◌==◌, not, if◌then◌else◌, slice_get}
 use Rattle.nor_device.specs.declared.nor.NorFault.{NorFault}
 use Rattle.partition_table.specs.declared.row.Row.{Row}
 use Rattle.partition_table.specs.Layout.{Places}
@@ -26,9 +26,9 @@ use Rattle.ota_session.specs.declared.target.Target.{Target}
 use Rattle.ota_session.specs.Course.{Course, Install, Installs, IsFor}
 use Rattle.ota_session.specs.SessionTold.{HasBegun, HasVerified, IsNotVerified, cause_of, wrong_byte}
 use Rattle.ota_session.specs.Stages.{Drives, IsOpen, Verified, Writing, begin_moves, closing_moves, entry_moves, image_moves, image_of, in_slot, session_moves, target_of}
-use Rattle.ota_session.proofs.StageLemmas.{image_is, installs}
+use Rattle.ota_session.proofs.StageLemmas.{image_is}
 use Rattle.power_cut.specs.declared.legs.LegEnd.{LegEnd}
-use Rattle.power_cut.specs.declared.legs.LegEnd.TheVariants.{Bad, Done, Empty, FirstByte}
+use Rattle.power_cut.specs.declared.legs.LegEnd.TheVariants.{Done, FirstByte}
 use Rattle.power_cut.specs.Update.{sealed_end, session_end, size_or_none, slot_size}
 use Rattle.duo_run.specs.Driving.{HasWrittenAll, IsNotAllWritten, all_moves, closed_end, ended_as, seal_moves, unsealed_as, unwritten_as}
 

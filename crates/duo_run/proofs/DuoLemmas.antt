@@ -1,6 +1,5 @@
 -- A session and a confirmation as legs of both cores.
-use Rattle.std.proofs.Common.{◌≡◌, ◌≢◌, ℕ, List, Option, Some, None, IfSome, IsSome, IsOk, IfOk, Result, Ok, Err, refl, sym, ap, ◌∙◌, subst}
-use Rattle.core_state.specs.Registers.{reset}
+use Rattle.std.proofs.Common.{◌≡◌, ◌≢◌, ℕ, List, Option, Some, None, IfSome, IsSome, IsOk, IfOk, Result, Ok, Err, refl, sym, ◌∙◌, subst}
 use Rattle.nor_device.specs.Ram.{Ram}
 use Rattle.crash_images.specs.Cut.{CutDevice}
 use Rattle.partition_table.specs.declared.app.App.{App}
@@ -17,15 +16,12 @@ use Rattle.mmu_map.specs.Map.{Map}
 use Rattle.boot_run.specs.declared.aims.Aim.{Aim}
 use Rattle.boot_run.specs.declared.booted.Booted.{Booted}
 use Rattle.core_script.specs.declared.action.Action.{Action}
-use Rattle.flash_steps.specs.Parts.{open_addresses}
 use Rattle.ota_session.specs.Course.{Confirm, Install}
 use Rattle.power_cut.specs.declared.legs.Ran.{Ran}
-use Rattle.power_cut.specs.Leg.{IsLeg}
-use Rattle.power_cut.specs.Update.{HoldsRewrite, HoldsUpdate, image_of}
+use Rattle.power_cut.specs.Update.{image_of}
 use Rattle.duo_run.specs.Both.{IsDuoLeg, MayBegin}
-use Rattle.duo_run.specs.Legs.{ConfirmShare, IsDuoConfirm, IsDuoSession, MayAffirm, MayInstall, SessionShare, ShowsApp}
+use Rattle.duo_run.specs.Legs.{IsDuoConfirm, IsDuoSession, MayAffirm, MayInstall, ShowsApp}
 use Rattle.duo_run.specs.Pages.{application_pages}
-use Rattle.duo_run.specs.Worker.{WorkerShare}
 use Rattle.duo_run.proofs.PlaceLemmas.{app_in_place, row_there}
 
 -- the pages that a leg shows are those of the application in this partition

@@ -1,11 +1,10 @@
 -- What a good flash means for the purpose of a leg, whatever step its duty has come to.
-use Rattle.std.proofs.Common.{◌≡◌, ◌≢◌, ◌==◌, Bool, true, false, ℕ, List, [], ◌++◌, Option, Some, None, refl, sym, ap, ◌∙◌, subst}
-use Rattle.std.specs.Prelude.{if◌then◌else◌, slice_get}
+use Rattle.std.proofs.Common.{◌≡◌, ◌≢◌, ◌==◌, Bool, true, false, ℕ, List, ◌++◌, Option, None, sym, ap, ◌∙◌, subst}
+use Rattle.std.specs.Prelude.{if◌then◌else◌}
 use Rattle.nor_device.specs.declared.step.Step.{Step}
 use Rattle.partition_table.specs.declared.row.Row.{Row}
 use Rattle.partition_table.specs.Layout.{Places}
 use Rattle.boot_select.specs.Boots.{entries_in, images_in}
-use Rattle.rollback.specs.declared.rewrite.Rewrite.{Rewrite}
 use Rattle.rollback.specs.Boots.{boots_in}
 use Rattle.rollback.proofs.PairLemmas.{boots_holds}
 use Rattle.image_verify.specs.Held.{held}
@@ -13,7 +12,7 @@ use Rattle.boot_run.specs.declared.aims.Aim.{Aim}
 use Rattle.flash_steps.specs.Parts.{open_addresses}
 use Rattle.update_steps.specs.Beside.{StandsBeside}
 use Rattle.update_steps.specs.Session.{BootsOldOrNew, IsOpening}
-use Rattle.ota_session.specs.Course.{Confirm, Course, Install, Installs, IsFor, IsGood, LeavesBoot, Purpose, course_after, driven, steps_for}
+use Rattle.ota_session.specs.Course.{Confirm, Course, Install, IsFor, IsGood, LeavesBoot, Purpose, course_after, driven, steps_for}
 use Rattle.power_cut.specs.Update.{bytes_or_none, image_of, size_or_none, slot_size}
 use Rattle.duo_run.specs.Jobs.{HoldsFor}
 

@@ -1,11 +1,10 @@
 -- A leg of both cores, from what the cores did and the device that came back.
-use Rattle.std.proofs.Common.{◌≡◌, ◌≢◌, ◌⊎◌, inl, inr, ℕ, zero, suc, ◌+◌, ◌-◌, ◌<◌, ◌≤◌, Bool, true, false, List, [], ◌∷◌, ◌++◌, length, Option, Some, None, IfOk, Result, Ok, Err, refl, sym, ap, ◌∙◌, subst, arith, append-nil}
+use Rattle.std.proofs.Common.{◌≡◌, ◌⊎◌, inl, inr, ℕ, zero, suc, ◌-◌, ◌<◌, Bool, true, false, List, [], ◌∷◌, ◌++◌, length, Option, Some, None, IfOk, Result, Ok, Err, refl, sym, ap, ◌∙◌, subst, arith, append-nil}
 use Rattle.std.specs.Prelude.{◌==◌, if◌then◌else◌}
 use Rattle.core_state.specs.declared.registers.Regs.{Regs}
 use Rattle.core_state.specs.Registers.{reset}
 use Rattle.core_state.specs.Sharing.{in_order}
 use Rattle.atomic_table.specs.Seated.{TableId}
-use Rattle.nor_device.specs.declared.step.Step.{Step}
 use Rattle.nor_device.specs.declared.nor.NorFault.{NorFault}
 use Rattle.nor_device.specs.Ram.{Ram}
 use Rattle.crash_images.specs.declared.cut.CutSetting.{CutSetting}
@@ -27,7 +26,7 @@ use Rattle.cache_gate.specs.Own.{IsFirst, OnBase, Own}
 use Rattle.core_script.specs.declared.action.Action.{Action}
 use Rattle.flash_steps.specs.Parts.{open_addresses}
 use Rattle.flash_ops.specs.declared.refusal.StepNo.{StepNo}
-use Rattle.flash_ops.specs.Moves.{Move, Ran as HasMoved, steps_of}
+use Rattle.flash_ops.specs.Moves.{Move, Ran as HasMoved}
 use Rattle.flash_ops.specs.Told.{fault_of}
 use Rattle.flash_ops.proofs.Runs.{made_follows}
 use Rattle.update_steps.specs.Beside.{StandsBeside}

@@ -1,5 +1,5 @@
 -- The pages of an application are free as they are fixed, and can be looked at.
-use Rattle.std.specs.Prelude.{◌≡◌, ℕ, ◌+◌, ◌-◌, ◌*◌, ◌/◌, ◌%◌, ◌<◌, ◌≤◌, ◌^◌, Bool, true, false, if◌then◌else◌, List, [], ◌∷◌, ◌++◌, length, Option, Some, None, IfSome, nat_lt, ◌&&◌, refl}
+use Rattle.std.specs.Prelude.{◌≡◌, ℕ, ◌+◌, ◌-◌, ◌/◌, ◌%◌, ◌<◌, ◌≤◌, ◌^◌, Bool, true, false, if◌then◌else◌, List, [], ◌∷◌, ◌++◌, length, Option, Some, None, IfSome, nat_lt, ◌&&◌, refl}
 use Rattle.std.proofs.Common.{◌∙◌, ap, sym, subst, arith}
 use Rattle.std.proofs.lemmas.List.{length-append}
 use Rattle.image_layout.specs.declared.space.Space.{Space}
@@ -16,7 +16,7 @@ use Rattle.mmu_map.specs.declared.page_use.PageUse.{PageUse}
 use Rattle.mmu_map.specs.declared.place.Place.{Place}
 use Rattle.mmu_map.specs.Place.{address_of, pages_in, place, place_of, start_of}
 use Rattle.mmu_map.specs.Runs.{AreFree, fixed_run}
-use Rattle.mmu_map.specs.Map.{AreFreeFrom, IsFreeRun, IsWhole, Map, empty, fixed, uses_in, with_run_at}
+use Rattle.mmu_map.specs.Map.{AreFreeFrom, IsFreeRun, IsWhole, Map, empty, uses_in, with_run_at}
 use Rattle.mmu_map.proofs.Places.{place_of_address}
 use Rattle.mmu_map.proofs.Empty.{empty_is_free, page_start as page_start_of}
 use Rattle.mmu_map.specs.Calls.{FixedAt}

@@ -1,17 +1,16 @@
 -- Where the application that runs stands in the flash, and that its segments are in place there.
-use Rattle.std.proofs.Common.{◌≡◌, ◌≢◌, ◌⊎◌, ℕ, zero, suc, ◌+◌, ◌%◌, ◌≤◌, Bool, true, false, List, [], ◌∷◌, length, take, drop, Option, Some, None, IsSome, Ok, refl, sym, ap, subst, ◌∙◌, arith, length-take}
+use Rattle.std.proofs.Common.{◌≡◌, ℕ, zero, suc, ◌+◌, ◌%◌, Bool, true, false, List, [], ◌∷◌, length, take, drop, Option, Some, None, IsSome, Ok, refl, sym, ap, ◌∙◌, arith, length-take}
 use Rattle.std.specs.Prelude.{if◌then◌else◌}
 use Rattle.std.specs.List.{find, slice_get}
 use Rattle.std.proofs.lemmas.Bool.Decides.{nat_tests}
 use Rattle.partition_table.specs.declared.app.App.{App}
 use Rattle.partition_table.specs.declared.app.App.TheVariants.{Ota, Factory, Test}
 use Rattle.partition_table.specs.declared.row.Row.{Row}
-use Rattle.partition_table.specs.Rules.{Stands, is_aligned, alignment_of}
+use Rattle.partition_table.specs.Rules.{is_aligned, alignment_of}
 use Rattle.partition_table.specs.Layout.{Places, is_of, layout_of, row_for, row_with, slots_from, with_slot}
 use Rattle.partition_table.specs.Table.{table_of}
 use Rattle.partition_table.proofs.LayoutLemmas.{IsLayout, layout_of-means}
 use Rattle.boot_select.specs.Boots.{image_by, images_in, slot_in}
-use Rattle.image_layout.specs.Whole.{Whole}
 use Rattle.image_verify.specs.declared.info.ImageInfo.{ImageInfo}
 use Rattle.image_verify.specs.Held.{held}
 use Rattle.image_verify.specs.Info.{IsInfo}

@@ -1,7 +1,6 @@
 -- Both cores of a leg: what they begin with, what each of them does, and what comes back.
-use Rattle.std.specs.Prelude.{◌≡◌, ◌+◌, ◌-◌, ◌<◌, ◌≤◌, ◌⊎◌, ℕ, zero, suc, List, [], ◌∷◌, drop, length, take, None, Result, Ok, Err}
+use Rattle.std.specs.Prelude.{◌≡◌, ◌⊎◌, ℕ, zero, suc, List, [], ◌∷◌, drop, length, take, None, Result, Ok, Err}
 use Rattle.core_state.specs.Registers.{reset}
-use Rattle.nor_device.specs.declared.nor.NorFault.{NorFault}
 use Rattle.nor_device.specs.FlashSize.{IsFlashSize}
 use Rattle.nor_device.specs.Ram.{Ram}
 use Rattle.crash_images.specs.declared.cut.CutSetting.{CutSetting}
@@ -28,7 +27,7 @@ use Rattle.power_cut.specs.declared.legs.Leg.{Leg}
 use Rattle.power_cut.specs.declared.legs.LegEnd.{LegEnd}
 use Rattle.power_cut.specs.declared.legs.LegEnd.TheVariants.{Done}
 use Rattle.power_cut.specs.declared.legs.Ran.{Ran}
-use Rattle.power_cut.specs.Device.{IsRan, IsReady, IsUnbroken, IsWholeEnd, MayEnd, MayRefuse, MayTear, MustRefuse, bytes_of, faults_of, is_off, running_in, setting_of}
+use Rattle.power_cut.specs.Device.{IsRan, IsReady, IsUnbroken, IsWholeEnd, MayEnd, MayRefuse, MayTear, MustRefuse, bytes_of, faults_of, is_off, setting_of}
 use Rattle.power_cut.specs.Leg.{IsLeg, IsSameFlash}
 use Rattle.duo_run.specs.Jobs.{CanDrive, DriverShare, HasDriven, HoldsFor, driver_room, end_for, length_for}
 use Rattle.duo_run.specs.Pages.{AreInPlace, application_pages, probe_in}

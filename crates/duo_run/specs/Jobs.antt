@@ -4,8 +4,6 @@ use Rattle.std.specs.Prelude.{◌≡◌, ℕ, ◌+◌, ◌*◌, ◌/◌, Bool, L
 use Rattle.core_state.specs.Registers.{reset}
 use Rattle.nor_device.specs.declared.nor.NorFault.{NorFault}
 use Rattle.partition_table.specs.Layout.{Places}
-use Rattle.rollback.specs.declared.rewrite.Rewrite.{Rewrite}
-use Rattle.boot_run.specs.declared.aims.Aim.{Aim}
 use Rattle.bus_hub.specs.declared.did.Base.{Base}
 use Rattle.bus_hub.specs.declared.did.Did.{Did}
 use Rattle.bus_hub.specs.declared.journal.Room.{Room}

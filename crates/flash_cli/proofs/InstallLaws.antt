@@ -1,17 +1,14 @@
 -- An update in which nothing fails is carried out.
-use mathlib.Core.Logic.{◌⊎◌, inl, inr}
-use Rattle.std.proofs.Common.{◌≡◌, ◌≢◌, ℕ, Bool, true, false, List, [], ◌∷◌, length, Option, Some, None, Ok, refl, sym, ap, ◌∙◌, subst}
-use Rattle.std.specs.Prelude.{◌&&◌}
+use mathlib.Core.Logic.{inl, inr}
+use Rattle.std.proofs.Common.{◌≡◌, ℕ, Bool, true, false, List, [], ◌∷◌, length, Option, Some, None, Ok, refl, sym, ap, ◌∙◌, subst}
 use Rattle.pipe_ends.specs.Store.{Files}
 use Rattle.boot_run.specs.declared.aims.Aim.{Aim}
 use Rattle.crash_images.specs.Cut.{CutDevice}
 use Rattle.nor_device.specs.Ram.{Ram}
 use Rattle.power_cut.specs.declared.legs.Leg.{Leg}
-use Rattle.power_cut.specs.declared.legs.LegEnd.{LegEnd}
-use Rattle.power_cut.specs.declared.legs.LegEnd.TheVariants.{Done as DoneEnd, Device, Cut, FirstByte, Empty, Bad}
+use Rattle.power_cut.specs.declared.legs.LegEnd.TheVariants.{Done as DoneEnd}
 use Rattle.power_cut.specs.declared.legs.Upto.{Upto}
 use Rattle.power_cut.specs.declared.outcome.Trial.{Trial}
-use Rattle.power_cut.specs.Update.{session_end, slot_size}
 use Rattle.power_cut.specs.Whole.{AreDone, BehindBoot, BehindSession, is_done, wants_boot, wants_confirm}
 use Rattle.flash_cli.specs.declared.status.Status.{Status}
 use Rattle.flash_cli.specs.declared.status.Status.TheVariants.{Done, Usage, Refused, StoreFault, DeviceFault, PowerCut, Memory, SinkFault}

@@ -1,8 +1,5 @@
 -- The bytes of each fetch of a leg's journal are in it.
-use Rattle.std.proofs.Common.{◌≡◌, ℕ, ◌+◌, ◌<◌, ◌≤◌, Bool, true, false, List, [], ◌∷◌, ◌++◌, length, Option, Some, None, refl, sym, subst, arith, length-append}
-use Rattle.nor_device.specs.declared.nor.StepEnd.{StepEnd}
-use Rattle.nor_device.specs.declared.nor.NorFault.{NorFault}
-use Rattle.nor_device.specs.declared.step.Step.{Step}
+use Rattle.std.proofs.Common.{◌≡◌, ℕ, ◌+◌, ◌<◌, ◌≤◌, Bool, true, false, List, [], ◌∷◌, ◌++◌, length, Option, Some, None, subst, arith, length-append}
 use Rattle.nor_device.specs.Ram.{Ram}
 use Rattle.crash_images.specs.declared.cut.CutSetting.{CutSetting}
 use Rattle.crash_images.specs.Cut.{CutDevice}
@@ -16,9 +13,7 @@ use Rattle.bus_hub.specs.declared.did.Did.TheVariants.{Opened, Closed, Broken, F
 use Rattle.bus_hub.specs.declared.duty.AnyDuty.{AnyDuty}
 use Rattle.bus_hub.specs.Log.{IsPlain, Rule, State, change, made_whole}
 use Rattle.bus_hub.specs.Hub.{Hub, begun}
-use Rattle.bus_hub.specs.Room.{Kept}
 use Rattle.bus_hub.proofs.Logs.{kept}
-use Rattle.mmu_map.specs.Map.{Map}
 use Rattle.boot_run.specs.declared.aims.Aim.{Aim}
 use Rattle.power_cut.specs.declared.outcome.Trial.{Trial}
 use Rattle.power_cut.specs.declared.legs.Leg.{Leg}

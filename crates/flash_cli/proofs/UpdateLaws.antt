@@ -1,21 +1,17 @@
 -- In which step an update ends, and how else.
-use mathlib.Core.Logic.{◌⊎◌, inl, inr}
-use Rattle.std.proofs.Common.{◌≡◌, ℕ, ◌<◌, ◌≤◌, Bool, true, false, List, [], ◌∷◌, Option, Some, None, refl, sym, ap, ◌∙◌, arith}
-use Rattle.std.specs.Prelude.{◌↔◌, ◌==◌, nat_le, if◌then◌else◌}
+use mathlib.Core.Logic.{inl, inr}
+use Rattle.std.proofs.Common.{◌≡◌, ℕ, ◌≤◌, Bool, true, false, List, [], ◌∷◌, Option, Some, None, refl, sym, ap, ◌∙◌, arith}
+use Rattle.std.specs.Prelude.{◌==◌, nat_le, if◌then◌else◌}
 use Rattle.std.proofs.lemmas.Bool.Decides.{nat_tests}
-use Rattle.crash_images.specs.Cut.{IsAhead, NotBoth}
+use Rattle.crash_images.specs.Cut.{NotBoth}
 use Rattle.image_verify.specs.declared.bad.BadImage.{BadImage}
 use Rattle.image_verify.specs.Bad.{bad}
 use Rattle.power_cut.specs.declared.legs.LegEnd.{LegEnd}
 use Rattle.power_cut.specs.declared.legs.LegEnd.TheVariants.{Done, Device, Cut, FirstByte, Empty, Bad}
-use Rattle.power_cut.specs.declared.outcome.Trial.{Trial}
 use Rattle.power_cut.specs.Device.{IsWholeEnd}
 use Rattle.power_cut.specs.Update.{sealed_end, session_end, slot_size}
-use Rattle.flash_cli.specs.declared.status.Status.{Status}
 use Rattle.flash_cli.specs.declared.status.Status.TheVariants.{DeviceFault, PowerCut}
-use Rattle.flash_cli.specs.declared.update_words.Options.{Options}
-use Rattle.flash_cli.specs.Opening.{AreOptions, Opening}
-use Rattle.flash_cli.specs.Updating.{IsUpdate, chosen_end, count_of, last_end, status_by}
+use Rattle.flash_cli.specs.Updating.{chosen_end, count_of, status_by}
 use Rattle.flash_cli.specs.UpdateLaws.{CutIsReached, ElseByImage, FailureIsReached}
 use Rattle.flash_cli.proofs.EndLemmas.{unbroken_end}
 

@@ -1,7 +1,7 @@
 -- A step on a word: an event of the machine, or a look that changes nothing.
 use Rattle.std.proofs.Common.{◌≡◌, ◌≢◌, ℕ, zero, suc, ◌+◌, ◌++◌, ◌∙◌, ap, subst, sym, refl, inl, inr, Bool, true, false, List, [], ◌∷◌, slice_index, slice_set, Option, Some, None, eqb, eq-eqb, ne_eqb, arith, ◌↔◌}
 use mathlib.Core.Logic.{dite}
-use mathlib.Core.Option.{some, none}
+use mathlib.Core.Option.{none}
 use mathlib.Core.Option as maybe
 use native.Mathlib.Decide.{ℕ_discrete}
 use prog.Atomic.{either}

@@ -1,9 +1,8 @@
 -- How many steps a leg has: those that both shares begin; and, where nothing broke off, those of
 -- both lists.
-use Rattle.std.proofs.Common.{◌==◌, ◌≡◌, ◌⊎◌, inl, inr, Bool, true, false, ℕ, zero, suc, ◌+◌, ◌-◌, ◌^◌, ◌<◌, ◌≤◌, min, cond, List, [], ◌∷◌, ◌++◌, length, Option, Some, None, Result, Ok, refl, sym, ap, ◌∙◌, subst, arith}
+use Rattle.std.proofs.Common.{◌≡◌, ◌⊎◌, inl, inr, ℕ, suc, ◌+◌, ◌-◌, ◌^◌, ◌<◌, ◌≤◌, min, List, [], ◌∷◌, length, Option, Some, None, Result, refl, ap, ◌∙◌, arith}
 use Rattle.nor_device.specs.declared.step.Step.{Step}
 use Rattle.nor_device.specs.declared.nor.NorFault.{NorFault}
-use Rattle.nor_device.specs.Nor.{one_more}
 use Rattle.nor_device.specs.Ram.{Ram}
 use Rattle.crash_images.specs.declared.cut.CutSetting.{CutSetting}
 use Rattle.crash_images.specs.Cut.{CutDevice, IsBad}
@@ -13,12 +12,12 @@ use Rattle.bus_hub.specs.declared.did.Did.TheVariants.{Opened, Closed, Broken, F
 use Rattle.bus_hub.specs.declared.did.Running.{Running}
 use Rattle.bus_hub.specs.declared.duty.AnyDuty.{AnyDuty}
 use Rattle.bus_hub.specs.Hub.{begun}
-use Rattle.bus_hub.specs.Log.{Item, Rule, Ruled, Runs, State, change, made_whole, of_core, reached}
+use Rattle.bus_hub.specs.Log.{Item, Rule, Ruled, Runs, State, change, made_whole, reached}
 use Rattle.bus_hub.specs.Room.{Kept}
-use Rattle.bus_hub.specs.Shares.{AreUnbroken, Begun, all_of, begun_of, made, made_from}
+use Rattle.bus_hub.specs.Shares.{AreUnbroken, all_of, begun_of, made, made_from}
 use Rattle.power_cut.specs.Counts.{opened_by, opened_in}
 use Rattle.power_cut.specs.Device.{IsUnbroken, MayEnd, MayRefuse, MayTear, MustRefuse}
-use Rattle.power_cut.specs.Leg.{AnyGrants, IsLeg, any_after, any_part, share_of}
+use Rattle.power_cut.specs.Leg.{AnyGrants, IsLeg, any_after, any_part}
 use Rattle.power_cut.proofs.MergeLemmas.{Merges, merged_shares, not_bad, unbroken_log}
 
 -- ---- the number of steps behind a log

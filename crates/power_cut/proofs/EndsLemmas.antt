@@ -6,7 +6,7 @@ use Rattle.nor_device.specs.declared.nor.StepEnd.{StepEnd}
 use Rattle.nor_device.specs.declared.nor.StepEnd.TheVariants as ends
 use Rattle.nor_device.specs.declared.nor.NorFault.{NorFault}
 use Rattle.nor_device.specs.declared.nor.NorFault.TheVariants.{Failed, Off}
-use Rattle.nor_device.specs.Nor.{HasCause, KeepsSetting, one_more}
+use Rattle.nor_device.specs.Nor.{one_more}
 use Rattle.nor_device.specs.Nor as nor
 use Rattle.nor_device.specs.Ram.{Ram}
 use Rattle.crash_images.specs.declared.cut.CutSetting.{CutSetting}

@@ -23,7 +23,6 @@ use Rattle.bus_hub.specs.Log.{Item, Rule, Ruled, State, change, made_whole, reac
 use Rattle.bus_hub.specs.Moments.{MayBeLeft}
 use Rattle.bus_hub.specs.Room.{Kept}
 use Rattle.bus_hub.proofs.Forgetting.{free_base, free_reached, free_state}
-use Rattle.bus_hub.proofs.Logs.{kept, ruled-front}
 use Rattle.bus_hub.proofs.Prefixes.{good_at_all}
 use Rattle.boot_run.specs.declared.aims.Aim.{Aim}
 use Rattle.update_steps.specs.Beside.{IsApart}

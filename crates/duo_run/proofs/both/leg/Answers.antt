@@ -1,8 +1,7 @@
 use Rattle.std.proofs.Common.{ap}
 use Rattle.bus_hub.specs.declared.journal.Room.{Room}
-use Rattle.duo_run.specs.Both.{base_with}
 use Rattle.duo_run.specs.Jobs.{length_for, purpose_of}
-use Rattle.duo_run.proofs.BeginLemmas.{base_is, begins_can, begins_good, begins_long, begins_placed, begins_short, few_entries}
+use Rattle.duo_run.proofs.BeginLemmas.{base_is, begins_can, begins_good, begins_placed, begins_short, few_entries}
 use Rattle.duo_run.proofs.OutcomeLemmas.{kept_base, kept_left, kept_right, outcome}
 use Rattle.duo_run.proofs.both.leg.Goals as goal
 

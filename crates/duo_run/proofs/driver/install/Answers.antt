@@ -1,5 +1,5 @@
 -- Each stage of a session goes on where the last one ended.
-use Rattle.std.proofs.Common.{◌≡◌, ◌∙◌, sym, subst, ℕ, Option}
+use Rattle.std.proofs.Common.{◌∙◌, sym, subst, ℕ, Option}
 use Rattle.flash_ops.specs.Asked.{CanLook, HasRoomFor}
 use Rattle.flash_ops.specs.Moves.{HasRun, write_moves}
 use Rattle.ota_session.specs.Stages.{entry_moves, image_of}

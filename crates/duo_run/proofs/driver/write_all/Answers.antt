@@ -1,7 +1,6 @@
 -- Each piece goes on where the last one ended, until none is left.
-use Rattle.std.proofs.Common.{◌≡◌, ◌≤◌, ◌∙◌, ap, sym, subst, arith, ℕ, List, Option, length, drop, length-drop}
+use Rattle.std.proofs.Common.{◌≡◌, ◌≤◌, ◌∙◌, ap, sym, subst, arith, ℕ, Option, length, drop, length-drop}
 use Rattle.std.proofs.lemmas.Bool.Decides.{nat_tests}
-use Rattle.cache_gate.specs.Own.{Own}
 use Rattle.flash_ops.specs.Asked.{HasRoomFor}
 use Rattle.ota_session.specs.SessionTold.{HasWritten, IsNotWritten, piece_moves}
 use Rattle.duo_run.proofs.WriteAllLemmas.{round_done, round_next, round_refused, round_room, up_to_all}
