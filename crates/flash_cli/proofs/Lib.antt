@@ -29,3 +29,4 @@ pub mod SweepLemmas
 pub mod SweptLemmas
 pub mod CutLaws
 pub mod InstallLaws
+pub mod MomentLaws

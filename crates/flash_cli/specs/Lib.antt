@@ -30,3 +30,4 @@ pub mod Laws
 pub mod UpdateLaws
 pub mod CutLaws
 pub mod Installs
+pub mod Moments

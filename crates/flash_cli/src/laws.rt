@@ -4,6 +4,7 @@ ghost use Rattle.flash_cli.specs.Laws.{UsageIsOfNoCommand, NoCommandIsUsage, Tol
 ghost use Rattle.flash_cli.specs.CutLaws.{CutUpdatesAreByFiles, SilentSweepsAreByFiles, SilentSweepsAreTheSame};
 ghost use Rattle.flash_cli.specs.UpdateLaws.{CutIsReached, ElseByImage, FailureIsReached};
 ghost use Rattle.flash_cli.specs.Installs.{FaultlessUpdateInstalls};
+ghost use Rattle.flash_cli.specs.Moments.{SweepsKeepBooting, UpdatesKeepBooting};
 
 use image_maker::made_images_are_whole;
 use image_verify::whole_images_show_no_fault;
@@ -53,6 +54,14 @@ pub(crate) fn updates_end_in_their_chosen_step()
     ensures cut { CutIsReached }
     ensures failure { FailureIsReached }
     ensures image { ElseByImage }
+{}
+
+/// Of every flash that a loss of power may leave, at any moment of an update's session, its boot or
+/// its confirmation, the application boots that ran, or the new one, whole, unless the entry that is
+/// found matches by chance; and some application boots in every case. So of each update of a sweep.
+pub(crate) fn power_lost_at_any_moment_leaves_old_or_new()
+    ensures update { UpdatesKeepBooting }
+    ensures sweep { SweepsKeepBooting }
 {}
 
 /// An update whose files refuse nothing, whose image is whole and fits, and of which no step was

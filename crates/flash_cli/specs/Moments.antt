@@ -1,0 +1,85 @@
+-- The flashes that a loss of power may leave at some moment of an update, and what boots of them.
+use Rattle.std.specs.Prelude.{◌≡◌, ◌≢◌, ◌⊎◌, ℕ, Bool, true, false, ◌&&◌, List, [], ◌∷◌, ◌++◌, Option, Result}
+use Rattle.nor_device.specs.declared.nor.NorFault.{NorFault}
+use Rattle.nor_device.specs.Ram.{Ram}
+use Rattle.crash_images.specs.Crash.{LeftAfter}
+use Rattle.crash_images.specs.Cut.{CutDevice}
+use Rattle.rollback.specs.Boots.{boots_in}
+use Rattle.image_verify.specs.Held.{held}
+use Rattle.mmu_map.specs.Map.{Map}
+use Rattle.bus_hub.specs.declared.did.Did.{Did}
+use Rattle.bus_hub.specs.Log.{Item}
+use Rattle.bus_hub.specs.Room.{Kept}
+use Rattle.boot_run.specs.declared.aims.Aim.{Aim}
+use Rattle.power_cut.specs.declared.legs.Leg.{Leg}
+use Rattle.power_cut.specs.declared.legs.Upto.{Upto}
+use Rattle.power_cut.specs.declared.legs.Upto.TheVariants.{Confirm}
+use Rattle.power_cut.specs.declared.outcome.Trial.{Trial}
+use Rattle.power_cut.specs.declared.swept.Sweep.{Sweep as Swept}
+use Rattle.power_cut.specs.Leg.{IsLeg, LeavesBehind}
+use Rattle.power_cut.specs.Update.{BootsEither}
+use Rattle.power_cut.specs.Whole.{BehindBoot, BehindSession, IsTrial, boot_steps, is_done, wants_boot, wants_confirm}
+use Rattle.flash_cli.specs.declared.update_words.Options.{Options}
+use Rattle.flash_cli.specs.Legs.{Confirms, Writes}
+use Rattle.flash_cli.specs.Opening.{Opening}
+use Rattle.flash_cli.specs.Sweeping.{IsSwept, IsSweptUpdate}
+use Rattle.flash_cli.specs.Updating.{IsUpdate}
+
+-- a loss of power at a moment of a leg of both cores may leave this flash: behind a first part of the
+-- leg's log
+module _ {drives works : Result (Unit {0}) NorFault → List Did → Type 0} {driver : ℕ}
+    {pages : Map → Type 0} {holds : List ℕ → Type 0} {old new : CutDevice Ram} {journal : Kept}
+  where
+    pub record IsLeftIn (leg : IsLeg drives works driver pages holds old new journal)
+        (left : List ℕ) : Type 0 where
+      pub before : List Item
+      pub later : List Item
+      pub log_is : leg.stands.stood.log ≡ before ++ later
+      pub leaves : LeavesBehind leg.base before left
+
+module _ (o : Opening) (driver : ℕ) (aim : Aim) where
+  -- at a moment of the confirmation, where there was one
+  abbrev pub IsLeftBehindBoot : (goes : Bool) (legs : List Leg) (dev : CutDevice Ram) (t : Trial)
+      → BehindBoot (Confirms o driver) o.layout o.flash aim o.image goes legs dev t → List ℕ
+      → Type 0
+  IsLeftBehindBoot false legs dev t ends left = ⊥
+  IsLeftBehindBoot true legs dev t ends left = IsLeftIn ends.confirmed.leg.leg left
+
+  -- at a moment of the boot, where there was one, or of the confirmation behind it
+  abbrev pub IsLeftBehindSession : (goes : Bool) (upto : Upto) (session : Leg)
+      (dev : CutDevice Ram) (t : Trial)
+      → BehindSession (Confirms o driver) o.layout o.flash aim o.image goes upto session dev t
+      → List ℕ → Type 0
+  IsLeftBehindSession false upto session dev t ends left = ⊥
+  IsLeftBehindSession true upto session dev t ends left =
+      LeftAfter dev.inner.bytes (boot_steps o.layout dev.inner.bytes) left
+      ⊎ IsLeftBehindBoot (wants_confirm upto && is_done ends.leg.end)
+      (session ∷ ends.leg ∷ []) ends.new t ends.behind left
+
+  -- at some moment of an update that this trial is: of its session, its boot or its confirmation
+  abbrev pub MayBeLeft : (device : CutDevice Ram) (upto : Upto) (t : Trial)
+      → IsTrial (Writes o driver aim device) (Confirms o driver) o.layout o.flash aim o.image upto t
+      → List ℕ → Type 0
+  MayBeLeft device upto t trial left =
+      IsLeftIn trial.written.leg.leg left
+      ⊎ IsLeftBehindSession (wants_boot upto && is_done trial.session.leg.end) upto
+      trial.session.leg trial.session.dev t trial.behind left
+
+-- one of both applications boots, but for chance, seen from the flash of the file; and some
+-- application boots in every case
+abbrev pub KeepsBooting : Opening → Aim → List ℕ → Type 0
+KeepsBooting o aim left =
+    BootsEither o.layout o.flash aim o.image left × (boots_in held o.layout left ≢ None)
+
+-- so of every flash that a loss of power may leave at some moment of an update
+abbrev pub UpdatesKeepBooting : Type 0
+UpdatesKeepBooting = (options : Options) (o : Opening) (t : Trial) (is : IsUpdate options o t)
+    (left : List ℕ)
+    → MayBeLeft o options.driver is.aim is.device options.upto t is.trial left
+    → KeepsBooting o is.aim left
+
+-- and of each update of a sweep
+abbrev pub SweepsKeepBooting : Type 0
+SweepsKeepBooting = (tear : ℕ) (o : Opening) (s : Swept) (is : IsSwept tear o s) (cut : Option ℕ)
+    (t : Trial) (u : IsSweptUpdate o 0 tear is.aim cut t) (left : List ℕ)
+    → MayBeLeft o 0 is.aim u.dev Confirm t u.trial left → KeepsBooting o is.aim left
