@@ -3,16 +3,17 @@ use Rattle.std.proofs.Common.{◌≡◌, inl, inr, ℕ, Bool, true, false, ◌&&
 use Rattle.nor_device.specs.Ram.{Ram}
 use Rattle.crash_images.specs.Cut.{CutDevice}
 use Rattle.flash_steps.specs.Parts.{open_addresses}
-use Rattle.update_steps.specs.Beside.{IsApart}
+use Rattle.update_steps.specs.Beside.{IsApart, StandsBeside}
+use Rattle.update_steps.specs.Driver.{driver_steps}
 use Rattle.boot_run.specs.declared.aims.Aim.{Aim}
 use Rattle.power_cut.specs.declared.legs.Leg.{Leg}
 use Rattle.power_cut.specs.declared.legs.Upto.{Upto}
 use Rattle.power_cut.specs.declared.legs.Upto.TheVariants.{Confirm}
 use Rattle.power_cut.specs.declared.outcome.Trial.{Trial}
 use Rattle.power_cut.specs.Update.{BootsEither, HoldsRewrite, HoldsUpdate}
-use Rattle.power_cut.specs.Whole.{BehindBoot, BehindSession, IsTrial, is_done, wants_boot, wants_confirm}
+use Rattle.power_cut.specs.Whole.{BehindBoot, BehindSession, BootsNew, IsTrial, is_done, wants_boot, wants_confirm}
 use Rattle.flash_cli.specs.Legs.{Confirms, Writes}
-use Rattle.flash_cli.specs.Moments.{IsLeftBehindBoot, IsLeftBehindSession, KeepsBooting, MayBeLeft, SweepsKeepBooting, UpdatesKeepBooting}
+use Rattle.flash_cli.specs.Moments.{IsLeftBehindBoot, IsLeftBehindSession, IsLeftConfirmed, IsLeftConfirmedBehind, KeepsBooting, MayBeLeft, MayBeLeftNew, SweepsBootNew, SweepsKeepBooting, UpdatesBootNew, UpdatesKeepBooting}
 use Rattle.flash_cli.specs.Opening.{Opening}
 
 module _ (o : Opening) (driver : ℕ) (aim : Aim) (apart : IsApart o.layout (open_addresses o.rows))
@@ -52,6 +53,43 @@ module _ (o : Opening) (driver : ℕ) (aim : Aim) (apart : IsApart o.layout (ope
         behind_session (wants_boot upto && is_done trial.session.leg.end) upto trial.session.leg
         trial.session.dev t trial.behind left may
 
+  -- ---- once it is announced or confirmed
+
+  once_confirmed : (goes : Bool) (legs : List Leg) (dev : CutDevice Ram) (t : Trial)
+      → (ends : BehindBoot (Confirms o driver) o.layout o.flash aim o.image goes legs dev t)
+      → (left : List ℕ) → IsLeftConfirmed o driver aim goes legs dev t ends left
+      → BootsNew o.layout aim o.image left
+  once_confirmed false legs dev t ends left may = absurd may
+  once_confirmed true legs dev t ends left may =
+      ends.once (open_addresses o.rows) left apart
+      (ends.confirmed.leg.behind may.before may.later left may.log_is may.all may.leaves)
+
+  confirmed_behind : (goes : Bool) (upto : Upto) (session : Leg) (dev : CutDevice Ram) (t : Trial)
+      → (ends : BehindSession (Confirms o driver) o.layout o.flash aim o.image goes upto session
+      dev t)
+      → (left : List ℕ) → IsLeftConfirmedBehind o driver aim goes upto session dev t ends left
+      → BootsNew o.layout aim o.image left
+  confirmed_behind false upto session dev t ends left may = absurd may
+  confirmed_behind true upto session dev t ends left may =
+      once_confirmed (wants_confirm upto && is_done ends.leg.end) (session ∷ ends.leg ∷ []) ends.new
+      t ends.behind left may
+
+  at_a_new_moment : (device : CutDevice Ram) (upto : Upto) (t : Trial)
+      → device.inner.bytes ≡ o.flash
+      → (trial : IsTrial (Writes o driver aim device) (Confirms o driver) o.layout o.flash aim
+      o.image upto t)
+      → (left : List ℕ) → MayBeLeftNew o driver aim device upto t trial left
+      → BootsNew o.layout aim o.image left
+  at_a_new_moment device upto t bytes trial left (inl may) =
+      let once = may.1 in
+      trial.announced may.0 (open_addresses o.rows) left apart
+      (subst (λ (f : List ℕ). StandsBeside f (driver_steps o.layout aim o.image) []
+      (open_addresses o.rows) left) bytes
+      (trial.written.leg.behind once.before once.later left once.log_is once.all once.leaves))
+  at_a_new_moment device upto t bytes trial left (inr may) =
+      confirmed_behind (wants_boot upto && is_done trial.session.leg.end) upto trial.session.leg
+      trial.session.dev t trial.behind left may
+
 pub updates_keep_booting : UpdatesKeepBooting
 updates_keep_booting options o t is left may =
     at_any_moment o options.driver is.aim is.apart is.device options.upto t is.fresh.bytes is.trial
@@ -60,3 +98,12 @@ updates_keep_booting options o t is left may =
 pub sweeps_keep_booting : SweepsKeepBooting
 sweeps_keep_booting tear o s is cut t u left may =
     at_any_moment o 0 is.aim is.apart u.dev Confirm t u.fresh.bytes u.trial left may
+
+pub updates_boot_new : UpdatesBootNew
+updates_boot_new options o t is left may =
+    at_a_new_moment o options.driver is.aim is.apart is.device options.upto t is.fresh.bytes is.trial
+    left may
+
+pub sweeps_boot_new : SweepsBootNew
+sweeps_boot_new tear o s is cut t u left may =
+    at_a_new_moment o 0 is.aim is.apart u.dev Confirm t u.fresh.bytes u.trial left may

@@ -31,6 +31,7 @@ module _ (confirms others : CutDevice Ram → Bor Booted → Bor Rewrite → Ran
     ran = ends.ran;
     confirmed = so dev ends.at ends.write ends.ran ends.may ends.confirmed;
     moments = ends.moments;
+    once = ends.once;
     ends = ends.ends;
   }
 
@@ -54,6 +55,7 @@ module _ (confirms others : CutDevice Ram → Bor Booted → Bor Rewrite → Ran
     session = trial.session;
     written = written trial.session trial.written;
     journal = trial.journal;
+    announced = trial.announced;
     behind = session_by _ upto trial.session.leg trial.session.dev t trial.behind;
   }
 

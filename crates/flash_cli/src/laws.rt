@@ -4,7 +4,7 @@ ghost use Rattle.flash_cli.specs.Laws.{UsageIsOfNoCommand, NoCommandIsUsage, Tol
 ghost use Rattle.flash_cli.specs.CutLaws.{CutUpdatesAreByFiles, SilentSweepsAreByFiles, SilentSweepsAreTheSame};
 ghost use Rattle.flash_cli.specs.UpdateLaws.{CutIsReached, ElseByImage, FailureIsReached};
 ghost use Rattle.flash_cli.specs.Installs.{FaultlessUpdateInstalls};
-ghost use Rattle.flash_cli.specs.Moments.{SweepsKeepBooting, UpdatesKeepBooting};
+ghost use Rattle.flash_cli.specs.Moments.{SweepsBootNew, SweepsKeepBooting, UpdatesBootNew, UpdatesKeepBooting};
 
 use image_maker::made_images_are_whole;
 use image_verify::whole_images_show_no_fault;
@@ -62,6 +62,14 @@ pub(crate) fn updates_end_in_their_chosen_step()
 pub(crate) fn power_lost_at_any_moment_leaves_old_or_new()
     ensures update { UpdatesKeepBooting }
     ensures sweep { SweepsKeepBooting }
+{}
+
+/// Once both steps of a confirmation are made, of every flash that a loss of power may leave the new
+/// application boots, whatever the other core does behind them; and so in a session, once all steps
+/// of an image are made that is whole. So in each update of a sweep.
+pub(crate) fn once_confirmed_the_new_application_boots()
+    ensures update { UpdatesBootNew }
+    ensures sweep { SweepsBootNew }
 {}
 
 /// An update whose files refuse nothing, whose image is whole and fits, and of which no step was

@@ -1,5 +1,5 @@
 -- An update from leg to leg: what each leg finds, and what is left where it is the last.
-use Rattle.std.proofs.Common.{◌≡◌, ◌≢◌, ◌⊎◌, inl, inr, Bool, true, false, ℕ, ◌==◌, ◌<◌, ◌^◌, List, [], ◌∷◌, length, Option, Some, None, Result, Ok, Err, refl, sym, ap, ◌∙◌, subst, arith}
+use Rattle.std.proofs.Common.{◌≡◌, ◌≢◌, ◌⊎◌, inl, inr, Bool, true, false, ℕ, ◌==◌, ◌<◌, ◌^◌, List, [], ◌∷◌, append-nil, length, Option, Some, None, Result, Ok, Err, refl, sym, ap, ◌∙◌, subst, arith}
 use Rattle.std.specs.Prelude.{◌&&◌, nat_lt, if◌then◌else◌, IfOk}
 use Rattle.std.specs.Borrow.{Bor}
 use Rattle.std.proofs.lemmas.Bool.{cases_Bool}
@@ -26,6 +26,8 @@ use Rattle.boot_run.specs.declared.aims.Aim.{Aim}
 use Rattle.boot_run.specs.declared.booted.Booted.{Booted}
 use Rattle.boot_run.specs.Rewriting.{rewrite, rewrites}
 use Rattle.boot_run.specs.Verified.{Starts}
+use Rattle.update_steps.specs.Beside.{StandsBeside}
+use Rattle.update_steps.specs.Driver.{driver_steps}
 use Rattle.update_steps.proofs.SessionLemmas.{ShowsNone}
 use Rattle.power_cut.specs.declared.legs.Leg.{Leg}
 use Rattle.power_cut.specs.declared.legs.LegEnd.{LegEnd}
@@ -37,7 +39,7 @@ use Rattle.power_cut.specs.declared.outcome.Trial.{Trial}
 use Rattle.power_cut.specs.Device.{HasEnd, IsReady, IsWholeEnd, running_in}
 use Rattle.power_cut.specs.Update.{BootsEither, Opens, sealed_end, session_end, slot_size}
 use Rattle.power_cut.specs.Kept.{IsStarted, KeepsConfirm, KeepsSession, MayConfirm}
-use Rattle.power_cut.specs.Whole.{AreDone, BehindBoot, BehindSession, BootsNew, EndsAsChosen, EndsWith, HasBooted, HoldsBoot, HoldsConfirm, IsBootLeg, IsClosed, IsOutcome, boot_steps, confirm_of, is_done, wants_boot, wants_confirm}
+use Rattle.power_cut.specs.Whole.{AreDone, BehindBoot, BehindSession, BootsNew, BootsNewBehind, EndsAsChosen, EndsWith, HasBooted, HoldsBoot, HoldsConfirm, IsBootLeg, IsClosed, IsOutcome, boot_steps, confirm_of, is_done, wants_boot, wants_confirm}
 use Rattle.power_cut.specs.Behind.{IsAnnounced, IsBehind}
 use Rattle.power_cut.proofs.ChosenLemmas.{boot_chosen, confirm_chosen, session_chosen}
 use Rattle.power_cut.proofs.BehindLemmas.{announced_active, announced_boots, announced_writes, behind_boots, behind_some, beside_behind, beside_here, booted_first, booted_waits, confirmed_new, confirming, left_behind, session_announced, two, waiting}
@@ -134,6 +136,14 @@ module _ (shown : ShowsNone) (layout : Places) (aim : Aim) (image : List ℕ) (o
   pub still_placed : (now : List ℕ) → length now ≡ length first → IsPlaced layout (length now)
   still_placed now same = subst (IsPlaced layout) (sym same) opens.placed
 
+  -- once all steps of a session are made whose image is whole, the new application boots
+  pub session_new : session_end (slot_size layout aim.slot) image ≡ Done
+      → BootsNewBehind layout aim image first (driver_steps layout aim image)
+  session_new done = λ others left apart stands.
+      announced_boots layout first aim image opens left
+      (session_announced layout first aim image opens shown others left apart
+      (sealed_whole shown (slot_size layout aim.slot) image done) stands)
+
   module _ (ran : Ran) (keeps : KeepsSession layout aim image old ran) where
     -- behind a session that is made whole the new application is announced
     pub announced : is_done ran.leg.end ≡ true
@@ -226,6 +236,34 @@ module _ (shown : ShowsNone) (layout : Places) (aim : Aim) (image : List ℕ) (o
             ap (λ (w : Rewrite). length w.entry.label) is in omega (arith, short, same))
             holds.split holds.stands)
 
+        -- and once all of its steps are made, the new one
+        pub confirm_new : (write : Rewrite) → write ≡ confirming layout first aim image opens
+            → BootsNewBehind layout aim image dev.inner.bytes (rewrite layout.otadata write)
+        confirm_new write is = λ others left apart stands.
+            let valid : Rewrite = confirming layout first aim image opens in
+            let here : StandsBeside dev.inner.bytes (rewrite layout.otadata valid) [] others left =
+            subst (λ (w : Rewrite). StandsBeside dev.inner.bytes (rewrite layout.otadata w) [] others
+            left) is stands in
+            confirmed_new layout first aim image opens dev.inner.bytes left waits (record {
+              behind = beside_behind layout first aim image opens others dev.inner.bytes left valid
+                  (rewrite layout.otadata valid) [] apart waits.behind refl
+                  (omega (arith, opens.stored.sized.label))
+                  (sym (append-nil (rewrite layout.otadata valid))) here;
+              here = beside_here layout first aim image opens others dev.inner.bytes left valid apart
+                  waits.behind refl stored here;
+            })
+          where
+            stored : IsStored (with_state 2 aim.next.entry)
+            stored = record {
+              sized = record {
+                seq = opens.stored.sized.seq;
+                label = opens.stored.sized.label;
+                state = omega arith;
+                crc = opens.stored.sized.crc;
+              };
+              label = opens.stored.label;
+            }
+
         module _ (write : Rewrite) (write_is : write ≡ confirming layout first aim image opens)
             (last : Ran) (kept : KeepsConfirm layout write dev last) where
           kept_new : KeepsConfirm layout (confirming layout first aim image opens) dev last
@@ -244,24 +282,8 @@ module _ (shown : ShowsNone) (layout : Places) (aim : Aim) (image : List ℕ) (o
           pub confirmed_boots_new : is_done last.leg.end ≡ true
               → BootsNew layout aim image last.dev.inner.bytes
           confirmed_boots_new whole =
-              confirmed_new layout first aim image opens dev.inner.bytes last.dev.inner.bytes waits
-              (record {
-                behind = confirmed_behind;
-                here = beside_here layout first aim image opens kept_new.others dev.inner.bytes
-                    last.dev.inner.bytes (confirming layout first aim image opens) kept_new.apart
-                    waits.behind refl stored (kept_new.done (done_whole last.leg.end whole));
-              })
-            where
-              stored : IsStored (with_state 2 aim.next.entry)
-              stored = record {
-                sized = record {
-                  seq = opens.stored.sized.seq;
-                  label = opens.stored.sized.label;
-                  state = omega arith;
-                  crc = opens.stored.sized.crc;
-                };
-                label = opens.stored.label;
-              }
+              confirm_new write write_is kept.others last.dev.inner.bytes kept.apart
+              (kept.done (done_whole last.leg.end whole))
 
   -- ---- the outcome, where this leg is the last
 
@@ -282,6 +304,7 @@ module _ (shown : ShowsNone) (layout : Places) (aim : Aim) (image : List ℕ) (o
         session = ran;
         written = written;
         journal = closed.session_is;
+        announced = session_new;
         behind = subst (λ b. BehindSession confirms layout first aim image b upto ran.leg ran.dev t)
             (sym stops)
             (subst (λ (l : List Leg). EndsWith l None ran.dev t) legs_are closed.ends);
@@ -346,6 +369,7 @@ module _ (shown : ShowsNone) (layout : Places) (aim : Aim) (image : List ℕ) (o
               session = ran;
               written = written;
               journal = closed.session_is;
+              announced = session_new;
               behind = subst
                   (λ b. BehindSession confirms layout first aim image b upto ran.leg ran.dev t)
                   (sym goes) (record {
@@ -429,6 +453,7 @@ module _ (shown : ShowsNone) (layout : Places) (aim : Aim) (image : List ℕ) (o
                       session = ran;
                       written = written;
                       journal = closed.session_is;
+                      announced = session_new;
                       behind = subst
                           (λ b. BehindSession confirms layout first aim image b upto ran.leg
                           ran.dev t) (sym goes) (record {
@@ -449,6 +474,8 @@ module _ (shown : ShowsNone) (layout : Places) (aim : Aim) (image : List ℕ) (o
                                   ran = last;
                                   confirmed = confirmed;
                                   moments = confirm_holds ran keeps done_here dev leg it whole_boot
+                                      of.now (of_is ∙ write_is);
+                                  once = confirm_new ran keeps done_here dev leg it whole_boot
                                       of.now (of_is ∙ write_is);
                                   ends = subst
                                       (λ (l : List Leg). EndsWith l (Some last.journal) last.dev t)

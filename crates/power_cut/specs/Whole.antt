@@ -20,9 +20,10 @@ use Rattle.boot_run.specs.declared.aims.Aim.{Aim}
 use Rattle.boot_run.specs.declared.booted.Booted.{Booted}
 use Rattle.boot_run.specs.Booted.{IsBoot}
 use Rattle.boot_run.specs.Made.{AreMadeBy}
-use Rattle.boot_run.specs.Rewriting.{rewrites}
+use Rattle.boot_run.specs.Rewriting.{rewrite, rewrites}
 use Rattle.boot_run.specs.Verified.{Starts}
-use Rattle.update_steps.specs.Beside.{IsApart}
+use Rattle.update_steps.specs.Beside.{IsApart, StandsBeside}
+use Rattle.update_steps.specs.Driver.{driver_steps}
 use Rattle.power_cut.specs.declared.legs.Leg.{Leg}
 use Rattle.power_cut.specs.declared.legs.LegEnd.{LegEnd}
 use Rattle.power_cut.specs.declared.legs.LegEnd.TheVariants.{Done, Device, Cut, FirstByte, Empty, Bad}
@@ -31,7 +32,7 @@ use Rattle.power_cut.specs.declared.legs.Upto.{Upto}
 use Rattle.power_cut.specs.declared.legs.Upto.TheVariants.{Session, Boot, Confirm}
 use Rattle.power_cut.specs.declared.outcome.Trial.{Trial}
 use Rattle.power_cut.specs.Device.{HasEnd, IsRan, IsReady, MayEnd, MayRefuse, MayTear, MustRefuse, setting_of}
-use Rattle.power_cut.specs.Update.{BootsEither, HoldsRewrite}
+use Rattle.power_cut.specs.Update.{BootsEither, HoldsRewrite, session_end, slot_size}
 use Rattle.power_cut.specs.Kept.{MayConfirm}
 
 -- the steps of a boot of this flash
@@ -51,6 +52,17 @@ abbrev pub HoldsConfirm : Places → List ℕ → Aim → List ℕ → List ℕ 
 HoldsConfirm layout first aim image flash write =
     (others : ℕ → Bool) (left : List ℕ) → IsApart layout others
     → HoldsRewrite layout flash write others left → BootsEither layout first aim image left
+
+-- the new application boots
+abbrev pub BootsNew : Places → Aim → List ℕ → List ℕ → Type 0
+BootsNew layout aim image left = boots_in held layout left ≡ Some (Ota aim.slot, image)
+
+-- so it does of each flash that stands behind all of these steps, beside a core that writes to nothing
+-- that a boot reads
+abbrev pub BootsNewBehind : Places → Aim → List ℕ → List ℕ → List Step → Type 0
+BootsNewBehind layout aim image flash steps =
+    (others : ℕ → Bool) (left : List ℕ) → IsApart layout others
+    → StandsBeside flash steps [] others left → BootsNew layout aim image left
 
 -- how a boot that answered so ends as a leg whose last step has this number
 abbrev pub end_by : ℕ → Result (Option Booted) NorFault → LegEnd
@@ -121,7 +133,8 @@ pub record EndsWith (legs : List Leg) (confirm : Option Kept) (dev : CutDevice R
 -- update began on the flash `first`, and is of `image`
 module _ (confirms : CutDevice Ram → Bor Booted → Bor Rewrite → Ran → Type 0) (layout : Places)
     (first : List ℕ) (aim : Aim) (image : List ℕ) where
-  -- behind the boot: a confirmation of what was booted, and what holds at its moments
+  -- behind the boot: a confirmation of what was booted, what holds at its moments, and once all of its
+  -- steps are made
   pub record EndsConfirmed (legs : List Leg) (dev : CutDevice Ram) (t : Trial) : Type 0 where
     pub at : Bor Booted
     pub write : Bor Rewrite
@@ -129,6 +142,7 @@ module _ (confirms : CutDevice Ram → Bor Booted → Bor Rewrite → Ran → Ty
     pub ran : Ran
     pub confirmed : confirms dev at write ran
     pub moments : HoldsConfirm layout first aim image dev.inner.bytes write.now
+    pub once : BootsNewBehind layout aim image dev.inner.bytes (rewrite layout.otadata write.now)
     pub ends : EndsWith (legs ++ ran.leg ∷ []) (Some ran.journal) ran.dev t
 
   -- or nothing
@@ -151,7 +165,8 @@ module _ (confirms : CutDevice Ram → Bor Booted → Bor Rewrite → Ran → Ty
   BehindSession true upto session dev t = EndsBooted upto session dev t
 
 -- an update on a device, as far as this: a session, a boot and a confirmation, and the first leg
--- whose end isn't Done is the last. `writes` tells which sessions there may be.
+-- whose end isn't Done is the last. `writes` tells which sessions there may be; once all steps of one
+-- are made whose image is whole, the new application boots.
 pub record IsTrial (writes : Ran → Type 0)
     (confirms : CutDevice Ram → Bor Booted → Bor Rewrite → Ran → Type 0)
     (layout : Places) (first : List ℕ) (aim : Aim) (image : List ℕ) (upto : Upto) (t : Trial)
@@ -159,6 +174,8 @@ pub record IsTrial (writes : Ran → Type 0)
   pub session : Ran
   pub written : writes session
   pub journal : t.session ≡ session.journal
+  pub announced : session_end (slot_size layout aim.slot) image ≡ Done
+      → BootsNewBehind layout aim image first (driver_steps layout aim image)
   pub behind : BehindSession confirms layout first aim image
       (wants_boot upto && is_done session.leg.end) upto session.leg session.dev t
 
@@ -174,10 +191,6 @@ pub record IsClosed (layout : Places) (legs : List Leg) (session : Kept) (confir
   pub session_is : t.session ≡ session
   pub after : IsBoot layout (images_in held layout t.flash.items)
       (entries_in layout t.flash.items) (Some t.after)
-
--- the new application boots
-abbrev pub BootsNew : Places → Aim → List ℕ → List ℕ → Type 0
-BootsNew layout aim image left = boots_in held layout left ≡ Some (Ota aim.slot, image)
 
 -- the steps of all legs
 abbrev pub total_steps : List Leg → ℕ
