@@ -83,6 +83,7 @@ session_is rows script driver layout aim image row dev ran is l = record {
     };
     both = l.both;
     done = l.done;
+    behind = l.behind;
   };
   parked = l.parked;
 }
@@ -147,6 +148,7 @@ confirm_is rows script driver layout at write row dev ran is l = record {
     };
     both = l.both;
     done = l.done;
+    behind = l.behind;
   };
   parked = l.parked;
 }

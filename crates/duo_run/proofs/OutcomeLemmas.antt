@@ -17,11 +17,13 @@ use Rattle.image_verify.specs.Bad.{bad}
 use Rattle.mmu_map.specs.Map.{Map}
 use Rattle.bus_hub.specs.declared.did.Base.{Base}
 use Rattle.bus_hub.specs.declared.did.Did.{Did}
+use Rattle.bus_hub.specs.declared.duty.AnyDuty.{AnyDuty}
 use Rattle.bus_hub.specs.Hub.{IsBaseOf}
 use Rattle.bus_hub.specs.Legal.{IsLegal}
-use Rattle.bus_hub.specs.Log.{of_core}
+use Rattle.bus_hub.specs.Log.{Item, of_core}
 use Rattle.bus_hub.specs.Room.{Kept, empty_journal}
 use Rattle.bus_hub.specs.Shares.{made}
+use Rattle.bus_hub.proofs.Forgetting.{free_base}
 use Rattle.cache_gate.specs.Own.{IsFirst, OnBase, Own}
 use Rattle.core_script.specs.declared.action.Action.{Action}
 use Rattle.flash_steps.specs.Parts.{open_addresses}
@@ -33,12 +35,13 @@ use Rattle.update_steps.specs.Beside.{StandsBeside}
 use Rattle.ota_session.specs.Course.{Confirm, Course, Grants, Install, IsGood, Purpose, course_after, part_of, steps_for}
 use Rattle.ota_session.specs.DutyLaws.{made_good, torn_good}
 use Rattle.ota_session.specs.SessionTold.{cause_of}
+use Rattle.ota_session.proofs.MomentLemmas.{free_moment_stands}
 use Rattle.ota_session.proofs.ReadLemmas.{stands_beside, stands_good}
 use Rattle.power_cut.specs.declared.legs.LegEnd.{LegEnd}
 use Rattle.power_cut.specs.declared.legs.LegEnd.TheVariants as ends
 use Rattle.power_cut.specs.declared.legs.Ran.{Ran}
 use Rattle.power_cut.specs.Device.{HasEnd, IsRan, IsUnbroken, IsWholeEnd, MayEnd, MayRefuse, MayTear, MustRefuse, bytes_of, faults_of, is_off, setting_of}
-use Rattle.power_cut.specs.Leg.{AnyGrants, IsAnyGood, IsLeg, any_after, any_part, bus_behind, share_of}
+use Rattle.power_cut.specs.Leg.{AnyGrants, IsAnyGood, IsLeg, LeavesBehind, any_after, any_duty, any_part, bus_behind, share_of}
 use Rattle.power_cut.specs.Update.{sealed_end, session_end, slot_size}
 use Rattle.power_cut.proofs.LegLemmas.{leg_of}
 use Rattle.power_cut.proofs.LogLemmas.{bus_told, share_refused}
@@ -312,16 +315,33 @@ module _ (rows : List Row) (script : List Action) (driver : ℕ) (layout : Place
       off_is = refl;
     }
 
-    -- a leg with this journal, and the run of both cores behind its shares
+    -- a log and a base of a leg: at each moment by which the driver has made all of its steps, of
+    -- every flash that a loss of power may leave they stand
+    abbrev StandsMade : List Item → Base (CutSetting (Unit {0})) AnyDuty → Type 0
+    StandsMade log opened =
+        (before later : List Item) (flash : List ℕ) → log ≡ before ++ later
+        → made (of_core driver before) ≡ steps_for layout purpose
+        → LeavesBehind opened before flash
+        → StandsBeside dev.inner.bytes (steps_for layout purpose) [] (open_addresses rows) flash
+
+    behind : StandsMade stands.stood.log (free_base any_duty base)
+    behind before later flash split all leaves =
+        free_moment_stands bytes_of is_off (λ (d : CutDevice Ram). d.steps) faults_of setting_of
+        MayEnd MayTear MayRefuse MustRefuse any_duty closed.bus base left.share right.share stands
+        before later flash split all leaves
+
+    -- a leg with this journal, the run of both cores behind its shares, and what stands once the
+    -- driver has made all of its steps
     abbrev ParkedLeg : Kept → Type 0
     ParkedLeg journal =
         (leg : IsLeg (DriverShare layout purpose (probe_in notes)) (WorkerShare rows reset script)
         driver (λ (m : Map). m ≡ application_pages offset notes)
         (HoldsFor layout dev.inner.bytes purpose (open_addresses rows)) dev ran.dev journal)
-        × IsParkedRun leg.left leg.right
+        × IsParkedRun leg.left leg.right × StandsMade leg.stands.stood.log leg.base
 
     -- a leg of which it is told that its shares are those of both cores
-    told_leg : IsLeg
+    abbrev ToldLeg : Type 0
+    ToldLeg = IsLeg
         (λ r items. DriverShare layout purpose (probe_in notes) r items
         × (items ≡ share_of driver left.share right.share))
         (λ r items. WorkerShare rows reset script r items
@@ -329,7 +349,10 @@ module _ (rows : List Row) (script : List Action) (driver : ℕ) (layout : Place
         driver (λ (m : Map). m ≡ application_pages offset notes)
         (HoldsFor layout dev.inner.bytes purpose (open_addresses rows)) dev ran.dev
         closed.bus.journal
-    told_leg =
+
+    told_here : (leg : ToldLeg) × (leg.stands.stood.log ≡ stands.stood.log)
+        × (leg.base ≡ free_base any_duty base)
+    told_here =
         leg_of part_of Grants course_after IsGood torn_good made_good (IsOf rows layout purpose)
         (stays_of rows layout purpose)
         (λ r items. DriverShare layout purpose (probe_in notes) r items
@@ -343,6 +366,9 @@ module _ (rows : List Row) (script : List Action) (driver : ℕ) (layout : Place
         (record { rows_are = refl; layout_is = refl; purpose_is = refl })
         (good_holds dev.inner.bytes rows layout purpose begins.for) (shares.drove, refl)
         (shares.works, refl)
+
+    abbrev told_leg : ToldLeg
+    told_leg = told_here.0
 
     parked_leg : ParkedLeg closed.bus.journal
     parked_leg = (
@@ -365,6 +391,10 @@ module _ (rows : List Row) (script : List Action) (driver : ℕ) (layout : Place
       },
       same_shares driver two told_leg.left told_leg.right left.share right.share
           told_leg.driver_share.1 told_leg.worker_share.1 run,
+      λ before later flash split all leaves. behind before later flash
+          (sym told_here.1 ∙ split) all
+          (subst (λ (b : Base (CutSetting (Unit {0})) AnyDuty). LeavesBehind b before flash)
+          told_here.2 leaves),
     )
 
     leg_here : ParkedLeg ran.journal
@@ -422,6 +452,7 @@ module _ (rows : List Row) (script : List Action) (driver : ℕ) (layout : Place
             leg (unbroken is),
       );
       done = done;
+      behind = leg_here.2;
     }
 
   -- both cores stay what they are

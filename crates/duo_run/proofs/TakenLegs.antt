@@ -103,6 +103,7 @@ module _ (rows : List Row) (script : List Action) (driver : â„•) (pages : Map â†
         (worker_taken rows script) is.leg;
     both = is.both;
     done = is.done;
+    behind = is.behind;
   }
 
   pub confirm_taken : (at : Booted) (write : Rewrite) (old : CutDevice Ram) (ran : Ran)
@@ -122,6 +123,7 @@ module _ (rows : List Row) (script : List Action) (driver : â„•) (pages : Map â†
         (worker_taken rows script) is.leg;
     both = is.both;
     done = is.done;
+    behind = is.behind;
   }
 
 -- ---- how many they begin

@@ -1,5 +1,5 @@
 -- Both cores of a leg: what they begin with, what each of them does, and what comes back.
-use Rattle.std.specs.Prelude.{◌≡◌, ◌⊎◌, ℕ, zero, suc, List, [], ◌∷◌, drop, length, take, None, Result, Ok, Err}
+use Rattle.std.specs.Prelude.{◌≡◌, ◌⊎◌, ℕ, zero, suc, List, [], ◌∷◌, ◌++◌, drop, length, take, None, Result, Ok, Err}
 use Rattle.core_state.specs.Registers.{reset}
 use Rattle.nor_device.specs.FlashSize.{IsFlashSize}
 use Rattle.nor_device.specs.Ram.{Ram}
@@ -15,7 +15,9 @@ use Rattle.bus_hub.specs.declared.did.Did.{Did}
 use Rattle.bus_hub.specs.declared.journal.Room.{Room}
 use Rattle.bus_hub.specs.Hub.{Hub, Stands}
 use Rattle.bus_hub.specs.Legal.{IsLegal}
+use Rattle.bus_hub.specs.Log.{Item, of_core}
 use Rattle.bus_hub.specs.Room.{room_in}
+use Rattle.bus_hub.specs.Shares.{made}
 use Rattle.cache_gate.specs.Own.{OnBase, Own}
 use Rattle.core_script.specs.declared.action.Action.{Action}
 use Rattle.flash_steps.specs.Parts.{open_addresses}
@@ -28,7 +30,7 @@ use Rattle.power_cut.specs.declared.legs.LegEnd.{LegEnd}
 use Rattle.power_cut.specs.declared.legs.LegEnd.TheVariants.{Done}
 use Rattle.power_cut.specs.declared.legs.Ran.{Ran}
 use Rattle.power_cut.specs.Device.{IsRan, IsReady, IsUnbroken, IsWholeEnd, MayEnd, MayRefuse, MayTear, MustRefuse, bytes_of, faults_of, is_off, setting_of}
-use Rattle.power_cut.specs.Leg.{IsLeg, IsSameFlash}
+use Rattle.power_cut.specs.Leg.{IsLeg, IsSameFlash, LeavesBehind}
 use Rattle.duo_run.specs.Jobs.{CanDrive, DriverShare, HasDriven, HoldsFor, driver_room, end_for, length_for}
 use Rattle.duo_run.specs.Pages.{AreInPlace, application_pages, probe_in}
 use Rattle.duo_run.specs.Parked.{IsParkedRun}
@@ -152,3 +154,8 @@ pub record IsDuoLeg (rows : List Row) (script : List Action) (driver : ℕ) (lay
   pub done : IsWholeEnd ran.leg.end
       → StandsBeside old.inner.bytes (steps_for layout purpose) [] (open_addresses rows)
       ran.dev.inner.bytes
+  pub behind : (before later : List Item) (flash : List ℕ)
+      → leg.stands.stood.log ≡ before ++ later
+      → made (of_core driver before) ≡ steps_for layout purpose
+      → LeavesBehind leg.base before flash
+      → StandsBeside old.inner.bytes (steps_for layout purpose) [] (open_addresses rows) flash

@@ -1,4 +1,5 @@
--- What boots at every moment of a log, and behind all steps, by the duty at the opening.
+-- What boots and what stands at every moment of a log, and behind all steps, by the duty at the
+-- opening.
 use Rattle.std.proofs.Common.{◌≡◌, ◌≢◌, ◌==◌, Bool, true, false, ℕ, ◌<◌, List, [], ◌∷◌, ◌++◌, Option, Some, None, refl, sym, ◌∙◌, subst, append-nil}
 use Rattle.std.specs.Prelude.{if◌then◌else◌, slice_get}
 use Rattle.std.specs.List.{All}
@@ -18,43 +19,51 @@ use Rattle.rollback.specs.Boots.{boots_in}
 use Rattle.image_layout.specs.Whole.{Whole}
 use Rattle.image_verify.specs.Held.{held}
 use Rattle.boot_run.specs.declared.aims.Aim.{Aim}
+use Rattle.flash_steps.specs.Parts.{open_addresses}
 use Rattle.bus_hub.specs.declared.did.Base.{Base}
 use Rattle.bus_hub.specs.declared.did.Did.{Did}
 use Rattle.bus_hub.specs.declared.did.Did.TheVariants.{Opened, Closed, Broken, Fetched, Noted, Denied, Mapping, Unmapping, Missed, Masked}
 use Rattle.bus_hub.specs.declared.did.Running.{Running}
 use Rattle.bus_hub.specs.Hub.{Hub, begun, step_of}
-use Rattle.bus_hub.specs.Log.{Item, State, change, made_whole, reached}
+use Rattle.bus_hub.specs.Log.{Item, State, change, made_whole, of_core, reached}
 use Rattle.bus_hub.specs.Moments.{MayBeLeft}
 use Rattle.bus_hub.specs.Shares.{made}
 use Rattle.bus_hub.proofs.Forgetting.{Still, free_base, free_reached}
-use Rattle.bus_hub.proofs.Logs.{Keeps}
+use Rattle.bus_hub.proofs.Logs.{Keeps, ruled-front}
+use Rattle.bus_hub.proofs.Parts.{known_by_log}
 use Rattle.bus_hub.proofs.Prefixes.{good_at_all}
-use Rattle.ota_session.specs.Course.{Confirm, Course, Grants, Install, IsGood, LeavesBoot, Purpose, course_after, driven, part_of}
-use Rattle.ota_session.specs.DutyLaws.{made_good, torn_good}
+use Rattle.update_steps.specs.Beside.{StandsBeside}
+use Rattle.ota_session.specs.Course.{Confirm, Course, Grants, Install, IsGood, LeavesBoot, Purpose, course_after, driven, part_after, part_of}
+use Rattle.ota_session.specs.DutyLaws.{made_good, other_stays, own_moves, torn_good}
 use Rattle.ota_session.specs.GoodLaws.{good_of}
 use Rattle.ota_session.proofs.BootLemmas.{confirmed_now, installed_boots}
+use Rattle.ota_session.proofs.PartLemmas.{driver_now, part_tells}
 use Rattle.ota_session.proofs.ReadLemmas.{StandsBy, first_good, stands_beside}
 
 -- ---- what no step changes
 
--- the layout and what the steps are for
+-- the rows, the layout and what the steps are for
 pub record IsSame (one two : Course) : Type 0 where
+  pub rows : two.rows ≡ one.rows
   pub layout : two.layout ≡ one.layout
   pub purpose : two.purpose ≡ one.purpose
 
 same_self : (course : Course) → IsSame course course
-same_self course = record { layout = refl; purpose = refl }
+same_self course = record { rows = refl; layout = refl; purpose = refl }
 
 same_twice : (one two three : Course) → IsSame one two → IsSame two three → IsSame one three
-same_twice one two three first then_ =
-    record { layout = then_.layout ∙ first.layout; purpose = then_.purpose ∙ first.purpose }
+same_twice one two three first then_ = record {
+  rows = then_.rows ∙ first.rows;
+  layout = then_.layout ∙ first.layout;
+  purpose = then_.purpose ∙ first.purpose;
+}
 
 -- a step of a core
 same_after : (course : Course) (c : ℕ) (step : Step) → IsSame course (course_after course c step)
 same_after course c step = by (c == course.driver)
   where
     by : (own : Bool) → IsSame course (if own then driven course step else course)
-    by true = record { layout = refl; purpose = refl }
+    by true = record { rows = refl; layout = refl; purpose = refl }
     by false = same_self course
 
 -- an item of a log
@@ -113,8 +122,29 @@ module _ {D S : Type 0}
   abbrev Stood : Hub D Course → Base S Course → List Did → List Did → Type 0
   Stood = StandsBy bytes off steps faults setting may_end may_tear may_refuse must_refuse
 
-  -- behind every first part of the log of a bus, every flash that a loss of power may leave boots
-  -- what the purpose says, and in every case some application
+  -- the log of a bus keeps its rules
+  ruled_as : (h : Hub D Course) (b : Base S Course) (left right : List Did)
+      (s : Stood h b left right) (log : List Item) → s.stood.log ≡ log
+      → Keeps may_end may_tear may_refuse must_refuse part_of Grants course_after b.setting (begun b)
+      log
+  ruled_as h b left right s log is =
+      subst (λ (log : List Item). Keeps may_end may_tear may_refuse must_refuse part_of Grants
+      course_after b.setting (begun b) log) is s.stood.ruled
+
+  -- behind every first part of the log of a bus, every flash that a loss of power may leave is good
+  -- by the duty of that moment
+  moment_good : (h : Hub D Course) (b : Base S Course) (left right : List Did)
+      (s : Stood h b left right) (before later : List Item) (flash : List ℕ)
+      → s.stood.log ≡ before ++ later
+      → MayBeLeft (reached course_after (begun b) before).flash
+      (reached course_after (begun b) before).running flash
+      → IsGood b.flash (reached course_after (begun b) before).duty flash
+  moment_good h b left right s before later flash split leaves =
+      good_at_all may_end may_tear may_refuse must_refuse part_of Grants course_after IsGood
+      torn_good made_good b.flash b.setting (begun b) before later flash
+      (ruled_as h b left right s (before ++ later) split) s.good_first refl leaves
+
+  -- so it boots what the purpose says, and in every case some application
   pub moment_boots : (h : Hub D Course) (b : Base S Course) (left right : List Did)
       (s : Stood h b left right) (before later : List Item) (flash : List ℕ)
       → s.stood.log ≡ before ++ later
@@ -124,11 +154,7 @@ module _ {D S : Type 0}
   moment_boots h b left right s before later flash split leaves =
       good_boots b.flash b.duty (reached course_after (begun b) before).duty flash
       (same_reached (begun b) before)
-      (good_at_all may_end may_tear may_refuse must_refuse part_of Grants course_after IsGood
-      torn_good made_good b.flash b.setting (begun b) before later flash
-      (subst (λ (log : List Item). Keeps may_end may_tear may_refuse must_refuse part_of Grants
-      course_after b.setting (begun b) log) split s.stood.ruled)
-      s.good_first refl leaves)
+      (moment_good h b left right s before later flash split leaves)
 
   -- the same of a log without a duty, and of what a loss of power leaves of a flash and a step
   pub free_moment_boots : {L : Type 0} (free : L) (h : Hub D Course) (b : Base S Course)
@@ -141,6 +167,58 @@ module _ {D S : Type 0}
       let there = reached course_after (begun b) before in
       let same = free_reached free course_after (begun b) before in
       moment_boots h b left right s before later flash split
+      (now_left there.flash there.running flash
+      (subst (λ (t : State L). LeavesNow t.flash (step_of t.running) flash) (sym same) leaves))
+
+  -- the duty behind a first part of the log in which the driver made these of its steps
+  moment_parts : (h : Hub D Course) (b : Base S Course) (left right : List Did)
+      (s : Stood h b left right) (before later : List Item) (done rest : List Step)
+      → s.stood.log ≡ before ++ later → b.duty.rest ≡ done ++ rest
+      → made (of_core b.duty.driver before) ≡ done
+      → ((reached course_after (begun b) before).duty.made ≡ b.duty.made ++ done)
+      × ((reached course_after (begun b) before).duty.rest ≡ rest)
+  moment_parts h b left right s before later done rest split parts did =
+      let known = known_by_log may_end may_tear may_refuse must_refuse part_of Grants part_after
+      course_after own_moves other_stays b.setting (begun b) b.duty.driver before
+      (ruled-front may_end may_tear may_refuse must_refuse part_of Grants course_after b.setting
+      (begun b) before later (ruled_as h b left right s (before ++ later) split)) in
+      part_tells (reached course_after (begun b) before).duty b.duty.driver (b.duty.made ++ done)
+      rest
+      (known.part_is
+      ∙ driver_now b b.duty.driver (of_core b.duty.driver before) done rest refl parts did)
+
+  -- behind every first part of the log in which the driver made all of its steps, beside the other
+  -- core every flash that a loss of power may leave is the one at the opening after them
+  pub moment_stands : (h : Hub D Course) (b : Base S Course) (left right : List Did)
+      (s : Stood h b left right) (before later : List Item) (flash : List ℕ)
+      → s.stood.log ≡ before ++ later → made (of_core b.duty.driver before) ≡ b.duty.rest
+      → MayBeLeft (reached course_after (begun b) before).flash
+      (reached course_after (begun b) before).running flash
+      → StandsBeside b.flash (b.duty.made ++ b.duty.rest) [] (open_addresses b.duty.rows) flash
+  moment_stands h b left right s before later flash split all leaves =
+      let duty : Course = (reached course_after (begun b) before).duty in
+      let parts = moment_parts h b left right s before later b.duty.rest [] split
+      (sym (append-nil b.duty.rest)) all in
+      let good = moment_good h b left right s before later flash split leaves in
+      subst (λ (rows : List Row). StandsBeside b.flash (b.duty.made ++ b.duty.rest) []
+      (open_addresses rows) flash) (same_reached (begun b) before).rows
+      (subst (λ (l : List Step). StandsBeside b.flash l [] (open_addresses duty.rows) flash)
+      parts.0
+      (subst (λ (l : List Step). StandsBeside b.flash duty.made l (open_addresses duty.rows) flash)
+      parts.1 good.stands))
+
+  -- the same of a log without a duty, and of what a loss of power leaves of a flash and a step
+  pub free_moment_stands : {L : Type 0} (free : L) (h : Hub D Course) (b : Base S Course)
+      (left right : List Did) (s : Stood h b left right) (before later : List Item)
+      (flash : List ℕ) → s.stood.log ≡ before ++ later
+      → made (of_core b.duty.driver before) ≡ b.duty.rest
+      → LeavesNow (reached Still (begun (free_base free b)) before).flash
+      (step_of (reached Still (begun (free_base free b)) before).running) flash
+      → StandsBeside b.flash (b.duty.made ++ b.duty.rest) [] (open_addresses b.duty.rows) flash
+  free_moment_stands {L} free h b left right s before later flash split all leaves =
+      let there = reached course_after (begun b) before in
+      let same = free_reached free course_after (begun b) before in
+      moment_stands h b left right s before later flash split all
       (now_left there.flash there.running flash
       (subst (λ (t : State L). LeavesNow t.flash (step_of t.running) flash) (sym same) leaves))
 

@@ -29,7 +29,7 @@ use Rattle.update_steps.specs.Beside.{IsApart}
 use Rattle.power_cut.specs.declared.legs.Ran.{Ran}
 use Rattle.power_cut.specs.Device.{MayEnd, MayRefuse, MayTear, MustRefuse, bytes_of, faults_of, is_off, setting_of}
 use Rattle.power_cut.specs.Kept.{IsConfirmLeg, IsSessionLeg, KeepsConfirm, KeepsSession}
-use Rattle.power_cut.specs.Leg.{AnyGrants, IsLeg, IsSameFlash, LeavesBehind, LegStands, any_after, any_duty, any_part, bus_behind, share_of, state_behind}
+use Rattle.power_cut.specs.Leg.{AnyGrants, IsLeg, IsSameFlash, LeavesBehind, any_after, any_duty, any_part, bus_behind, share_of, state_behind}
 use Rattle.power_cut.specs.Update.{HoldsRewrite, HoldsUpdate}
 
 -- what a loss of power may leave, in the words of the device and of the log
@@ -113,7 +113,7 @@ module _ {K P : Type 0} (part : K → ℕ → P) (grants : P → Step → Type 0
         log_stays (change after s x.core x.did) log (item_stays s x.core x.did is)
 
     -- a bus with nothing running that stands for its base and both shares is a leg: what its duty
-    -- calls good holds at every moment
+    -- calls good holds at every moment; its log is that of the bus, and its base that without a duty
     pub leg_of : (drives works : Result (Unit {0}) NorFault → List Did → Type 0) (driver : ℕ)
         (pages : Map → Type 0) (holds : List ℕ → Type 0) (old new : CutDevice Ram)
         (h : Hub (CutDevice Ram) K) (b : Base (CutSetting (Unit {0})) K) (map : Map)
@@ -121,71 +121,73 @@ module _ {K P : Type 0} (part : K → ℕ → P) (grants : P → Step → Type 0
         (Unit {0}) NorFault)
         → IsBaseOf bytes_of is_off (λ d. d.steps) faults_of setting_of b old map journal duty
         → pages b.map
-        → Stands bytes_of is_off (λ d. d.steps) faults_of setting_of MayEnd MayTear MayRefuse
-        MustRefuse part grants after good h b left right
+        → (stands : Stands bytes_of is_off (λ d. d.steps) faults_of setting_of MayEnd MayTear
+        MayRefuse MustRefuse part grants after good h b left right)
         → h.running ≡ None → IsSameFlash h.dev new → IsLegal h.journal.entries
         → stays b.duty
         → ((d : K) (flash : List ℕ) → stays d → good b.flash d flash → holds flash)
         → drives drove (share_of driver left right) → works worked (share_of
         (1 - driver) left right)
-        → IsLeg drives works driver pages holds old new h.journal
+        → (leg : IsLeg drives works driver pages holds old new h.journal)
+        × (leg.stands.stood.log ≡ stands.stood.log) × (leg.base ≡ free_base any_duty b)
     leg_of drives works driver pages holds old new h b map journal duty left right drove worked
-        opening mapped stands idle same legal is means drives_so works_so = record {
-          base = free_base any_duty b;
-          map = h.map;
-          opening = record {
-            flash_is = opening.flash_is;
-            map_is = refl;
-            duty_is = refl;
-            left_is = sym stands.left_room;
-            right_is = sym stands.right_room;
-            setting_is = opening.setting_is;
-            steps_are = opening.steps_are;
-            faults_are = opening.faults_are;
-            off_is = opening.off_is;
-          };
-          mapped = mapped;
-          left = left;
-          right = right;
-          drove = drove;
-          worked = worked;
-          driver_share = drives_so;
-          worker_share = works_so;
-          back = h.dev;
-          same = same;
-          stands = behind;
-          legal = legal;
-          moments = moments;
-        }
+        opening mapped stands idle same legal is means drives_so works_so = (
+          record {
+            base = free_base any_duty b;
+            map = h.map;
+            opening = record {
+              flash_is = opening.flash_is;
+              map_is = refl;
+              duty_is = refl;
+              left_is = sym stands.left_room;
+              right_is = sym stands.right_room;
+              setting_is = opening.setting_is;
+              steps_are = opening.steps_are;
+              faults_are = opening.faults_are;
+              off_is = opening.off_is;
+            };
+            mapped = mapped;
+            left = left;
+            right = right;
+            drove = drove;
+            worked = worked;
+            driver_share = drives_so;
+            worker_share = works_so;
+            back = h.dev;
+            same = same;
+            stands = record {
+              flash = stands.flash;
+              told = stands.told;
+              noted = stands.noted;
+              counted = stands.counted;
+              is_off = stands.is_off;
+              power = stands.power;
+              setting_is = stands.setting_is;
+              left_room = stands.left_room;
+              right_room = stands.right_room;
+              left_fits = fits_free b 0 left stands.left_fits;
+              right_fits = fits_free b 1 right stands.right_fits;
+              good_first = tt;
+              whole_first = stands.whole_first;
+              stood = record {
+                log = stands.stood.log;
+                left_is = stands.stood.left_is;
+                right_is = stands.stood.right_is;
+                ruled = ruled_free b.setting (begun b) stands.stood.log stands.stood.ruled;
+                leads = sym (free_reached any_duty after (begun b) stands.stood.log)
+                    ∙ ap (free_state any_duty) stands.stood.leads
+                    ∙ ap (λ (o : Option Running).
+                    record (state_of (bus_behind h.dev h.map h.journal) stands.flash h.dev.steps
+                    stands.noted stands.is_off) { running = o }) idle;
+              };
+            };
+            legal = legal;
+            moments = moments;
+          },
+          refl,
+          refl,
+        )
       where
-        behind : LegStands (bus_behind h.dev h.map h.journal) (free_base any_duty b) left right
-        behind = record {
-          flash = stands.flash;
-          told = stands.told;
-          noted = stands.noted;
-          counted = stands.counted;
-          is_off = stands.is_off;
-          power = stands.power;
-          setting_is = stands.setting_is;
-          left_room = stands.left_room;
-          right_room = stands.right_room;
-          left_fits = fits_free b 0 left stands.left_fits;
-          right_fits = fits_free b 1 right stands.right_fits;
-          good_first = tt;
-          whole_first = stands.whole_first;
-          stood = record {
-            log = stands.stood.log;
-            left_is = stands.stood.left_is;
-            right_is = stands.stood.right_is;
-            ruled = ruled_free b.setting (begun b) stands.stood.log stands.stood.ruled;
-            leads = sym (free_reached any_duty after (begun b) stands.stood.log)
-                ∙ ap (free_state any_duty) stands.stood.leads
-                ∙ ap (λ (o : Option Running).
-                record (state_of (bus_behind h.dev h.map h.journal) stands.flash h.dev.steps
-                stands.noted stands.is_off) { running = o }) idle;
-          };
-        }
-
         moments : (before later : List Item) (flash : List ℕ)
             → stands.stood.log ≡ before ++ later
             → LeavesBehind (free_base any_duty b) before flash → holds flash

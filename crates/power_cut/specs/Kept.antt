@@ -1,5 +1,5 @@
 -- The two legs of an update in which both cores are at work, and what a trial needs of them.
-use Rattle.std.specs.Prelude.{◌≡◌, ◌≢◌, ℕ, ◌<◌, Bool, List, [], length, Some, None, Result, Ok}
+use Rattle.std.specs.Prelude.{◌≡◌, ◌≢◌, ℕ, ◌<◌, Bool, List, [], ◌++◌, length, Some, None, Result, Ok}
 use Rattle.nor_device.specs.declared.nor.NorFault.{NorFault}
 use Rattle.nor_device.specs.Nor.{part_of}
 use Rattle.nor_device.specs.Ram.{Ram}
@@ -14,6 +14,8 @@ use Rattle.rollback.specs.Rewrite.{restated}
 use Rattle.image_verify.specs.Held.{held}
 use Rattle.mmu_map.specs.Map.{Map}
 use Rattle.bus_hub.specs.declared.did.Did.{Did}
+use Rattle.bus_hub.specs.Log.{Item, of_core}
+use Rattle.bus_hub.specs.Shares.{made}
 use Rattle.boot_run.specs.declared.aims.Aim.{Aim}
 use Rattle.boot_run.specs.declared.booted.Booted.{Booted}
 use Rattle.boot_run.specs.Rewriting.{rewrite}
@@ -23,12 +25,13 @@ use Rattle.update_steps.specs.Driver.{driver_steps}
 use Rattle.power_cut.specs.declared.legs.LegEnd.TheVariants.{Done}
 use Rattle.power_cut.specs.declared.legs.Ran.{Ran}
 use Rattle.power_cut.specs.Device.{IsRan, IsReady, IsWholeEnd}
-use Rattle.power_cut.specs.Leg.{IsLeg}
+use Rattle.power_cut.specs.Leg.{IsLeg, LeavesBehind}
 use Rattle.power_cut.specs.Update.{HoldsRewrite, HoldsUpdate, session_end, slot_size}
 
 module _ (drives works : Result (Unit {0}) NorFault → List Did → Type 0) (driver : ℕ)
     (pages : Map → Type 0) where
-  -- a session: a leg whose steps are those of the update; where nothing broke off, all are made
+  -- a session: a leg whose steps are those of the update; where nothing broke off, all are made, and
+  -- once the driver has made all, they stand on every flash that a loss of power may leave
   pub record IsSessionLeg (layout : Places) (others : ℕ → Bool) (aim : Aim) (image : List ℕ)
       (old : CutDevice Ram) (ran : Ran) : Type 0 where
     pub ran_is : IsRan old ran.dev (session_end (slot_size layout aim.slot) image) ran.leg
@@ -38,6 +41,11 @@ module _ (drives works : Result (Unit {0}) NorFault → List Did → Type 0) (dr
     pub done : IsWholeEnd ran.leg.end
         → StandsBeside old.inner.bytes (driver_steps layout aim image) [] others
         ran.dev.inner.bytes
+    pub behind : (before later : List Item) (flash : List ℕ)
+        → leg.stands.stood.log ≡ before ++ later
+        → made (of_core driver before) ≡ driver_steps layout aim image
+        → LeavesBehind leg.base before flash
+        → StandsBeside old.inner.bytes (driver_steps layout aim image) [] others flash
 
   -- a confirmation: a leg whose steps are those of the rewrite
   pub record IsConfirmLeg (layout : Places) (others : ℕ → Bool) (write : Rewrite)
@@ -49,6 +57,11 @@ module _ (drives works : Result (Unit {0}) NorFault → List Did → Type 0) (dr
     pub done : IsWholeEnd ran.leg.end
         → StandsBeside old.inner.bytes (rewrite layout.otadata write) [] others
         ran.dev.inner.bytes
+    pub behind : (before later : List Item) (flash : List ℕ)
+        → leg.stands.stood.log ≡ before ++ later
+        → made (of_core driver before) ≡ rewrite layout.otadata write
+        → LeavesBehind leg.base before flash
+        → StandsBeside old.inner.bytes (rewrite layout.otadata write) [] others flash
 
 -- what a session keeps, whatever the other core did: the device, and what stands on its flash
 pub record KeepsSession (layout : Places) (aim : Aim) (image : List ℕ) (old : CutDevice Ram)
