@@ -53,42 +53,42 @@ module _ (o : Opening) (driver : ℕ) (aim : Aim) (apart : IsApart o.layout (ope
         behind_session (wants_boot upto && is_done trial.session.leg.end) upto trial.session.leg
         trial.session.dev t trial.behind left may
 
-  -- ---- once it is announced or confirmed
+    -- ---- once it is announced or confirmed
 
-  once_confirmed : (goes : Bool) (legs : List Leg) (dev : CutDevice Ram) (t : Trial)
-      → (ends : BehindBoot (Confirms o driver) o.layout o.flash aim o.image goes legs dev t)
-      → (left : List ℕ) → IsLeftConfirmed o driver aim goes legs dev t ends left
-      → BootsNew o.layout aim o.image left
-  once_confirmed false legs dev t ends left may = absurd may
-  once_confirmed true legs dev t ends left may =
-      ends.once (open_addresses o.rows) left apart
-      (ends.confirmed.leg.behind may.before may.later left may.log_is may.all may.leaves)
+    once_confirmed : (goes : Bool) (legs : List Leg) (dev : CutDevice Ram) (t : Trial)
+        → (ends : BehindBoot (Confirms o driver) o.layout o.flash aim o.image goes legs dev t)
+        → (left : List ℕ) → IsLeftConfirmed o driver aim goes legs dev t ends left
+        → BootsNew o.layout aim o.image left
+    once_confirmed false legs dev t ends left may = absurd may
+    once_confirmed true legs dev t ends left may =
+        ends.once (open_addresses o.rows) left apart
+        (ends.confirmed.leg.behind may.before may.later left may.log_is may.all may.leaves)
 
-  confirmed_behind : (goes : Bool) (upto : Upto) (session : Leg) (dev : CutDevice Ram) (t : Trial)
-      → (ends : BehindSession (Confirms o driver) o.layout o.flash aim o.image goes upto session
-      dev t)
-      → (left : List ℕ) → IsLeftConfirmedBehind o driver aim goes upto session dev t ends left
-      → BootsNew o.layout aim o.image left
-  confirmed_behind false upto session dev t ends left may = absurd may
-  confirmed_behind true upto session dev t ends left may =
-      once_confirmed (wants_confirm upto && is_done ends.leg.end) (session ∷ ends.leg ∷ []) ends.new
-      t ends.behind left may
+    confirmed_behind : (goes : Bool) (upto : Upto) (session : Leg) (dev : CutDevice Ram) (t : Trial)
+        → (ends : BehindSession (Confirms o driver) o.layout o.flash aim o.image goes upto session
+        dev t)
+        → (left : List ℕ) → IsLeftConfirmedBehind o driver aim goes upto session dev t ends left
+        → BootsNew o.layout aim o.image left
+    confirmed_behind false upto session dev t ends left may = absurd may
+    confirmed_behind true upto session dev t ends left may =
+        once_confirmed (wants_confirm upto && is_done ends.leg.end) (session ∷ ends.leg ∷ []) ends.new
+        t ends.behind left may
 
-  at_a_new_moment : (device : CutDevice Ram) (upto : Upto) (t : Trial)
-      → device.inner.bytes ≡ o.flash
-      → (trial : IsTrial (Writes o driver aim device) (Confirms o driver) o.layout o.flash aim
-      o.image upto t)
-      → (left : List ℕ) → MayBeLeftNew o driver aim device upto t trial left
-      → BootsNew o.layout aim o.image left
-  at_a_new_moment device upto t bytes trial left (inl may) =
-      let once = may.1 in
-      trial.announced may.0 (open_addresses o.rows) left apart
-      (subst (λ (f : List ℕ). StandsBeside f (driver_steps o.layout aim o.image) []
-      (open_addresses o.rows) left) bytes
-      (trial.written.leg.behind once.before once.later left once.log_is once.all once.leaves))
-  at_a_new_moment device upto t bytes trial left (inr may) =
-      confirmed_behind (wants_boot upto && is_done trial.session.leg.end) upto trial.session.leg
-      trial.session.dev t trial.behind left may
+    at_a_new_moment : (device : CutDevice Ram) (upto : Upto) (t : Trial)
+        → device.inner.bytes ≡ o.flash
+        → (trial : IsTrial (Writes o driver aim device) (Confirms o driver) o.layout o.flash aim
+        o.image upto t)
+        → (left : List ℕ) → MayBeLeftNew o driver aim device upto t trial left
+        → BootsNew o.layout aim o.image left
+    at_a_new_moment device upto t bytes trial left (inl may) =
+        let once = may.1 in
+        trial.announced may.0 (open_addresses o.rows) left apart
+        (subst (λ (f : List ℕ). StandsBeside f (driver_steps o.layout aim o.image) []
+        (open_addresses o.rows) left) bytes
+        (trial.written.leg.behind once.before once.later left once.log_is once.all once.leaves))
+    at_a_new_moment device upto t bytes trial left (inr may) =
+        confirmed_behind (wants_boot upto && is_done trial.session.leg.end) upto trial.session.leg
+        trial.session.dev t trial.behind left may
 
 pub updates_keep_booting : UpdatesKeepBooting
 updates_keep_booting options o t is left may =

@@ -42,14 +42,14 @@ module _ {drives works : Result (Unit {0}) NorFault → List Did → Type 0} {dr
       pub log_is : leg.stands.stood.log ≡ before ++ later
       pub leaves : LeavesBehind leg.base before left
 
-  -- behind one in which the driver has made all of these steps
-  pub record IsLeftOnce (leg : IsLeg drives works driver pages holds old new journal)
-      (steps : List Step) (left : List ℕ) : Type 0 where
-    pub before : List Item
-    pub later : List Item
-    pub log_is : leg.stands.stood.log ≡ before ++ later
-    pub all : made (of_core driver before) ≡ steps
-    pub leaves : LeavesBehind leg.base before left
+    -- behind one in which the driver has made all of these steps
+    pub record IsLeftOnce (leg : IsLeg drives works driver pages holds old new journal)
+        (steps : List Step) (left : List ℕ) : Type 0 where
+      pub before : List Item
+      pub later : List Item
+      pub log_is : leg.stands.stood.log ≡ before ++ later
+      pub all : made (of_core driver before) ≡ steps
+      pub leaves : LeavesBehind leg.base before left
 
 module _ (o : Opening) (driver : ℕ) (aim : Aim) where
   -- at a moment of the confirmation, where there was one
