@@ -1,5 +1,5 @@
 -- The run of the parking machine that both cores leave, in the words of their shares.
-use Rattle.std.proofs.Common.{◌≡◌, ◌==◌, ◌<◌, ◌++◌, ◌∙◌, ℕ, zero, suc, Bool, true, false, List, [], ◌∷◌, Option, Some, None, refl, sym, ap, subst, arith, append_assoc}
+use Rattle.std.proofs.Common.{◌≡◌, ◌==◌, ◌<◌, ◌++◌, ◌∙◌, ℕ, zero, suc, Bool, true, false, List, [], ◌∷◌, Option, Some, None, refl, sym, ap, subst, arith, append_assoc, append-nil}
 use Rattle.std.specs.Prelude.{if◌then◌else◌}
 use Rattle.core_state.specs.declared.registers.Record.{Record}
 use Rattle.core_state.specs.declared.registers.Regs.{Regs}
@@ -17,8 +17,8 @@ use Rattle.duo_machine.proofs.StepKeeps.{by_two, of_two}
 use Rattle.park_words.specs.declared.view.Act.{Act}
 use Rattle.park_words.specs.declared.view.Act.TheVariants.{Gave, Made, Took}
 use Rattle.park_words.specs.declared.view.Entry.{Entry}
-use Rattle.park_words.specs.Story.{done_by, entry, event_of as event_before, events_of, machine_at}
-use Rattle.park_words.proofs.Stories.{own_both}
+use Rattle.park_words.specs.Story.{CanBeMade, done_by, entry, event_of as event_before, events_of, machine_at, turn_at}
+use Rattle.park_words.proofs.Stories.{own_both, stories_are_safe}
 use Rattle.bus_hub.specs.declared.did.Did.{Did}
 use Rattle.bus_hub.specs.declared.did.Did.TheVariants.{Broken, Closed, Denied, Fetched, Mapping, Masked, Missed, Noted, Opened, Unmapping}
 use Rattle.bus_hub.specs.declared.entry.Act.TheVariants as acts
@@ -26,7 +26,7 @@ use Rattle.cache_gate.specs.Own.{Own, RanBoth}
 use Rattle.cache_gate.specs.Works.{act_before, before, event_of, events_in, work_of, works_of}
 use Rattle.cache_gate.proofs.Walks.{works_of-append}
 use Rattle.power_cut.specs.Leg.{share_of}
-use Rattle.duo_run.specs.Parked.{HasOwnRegisters, IsParkedRun}
+use Rattle.duo_run.specs.Parked.{HasOwnRegisters, IsParkedRun, IsRunOf, KeepsBoth}
 use Rattle.duo_run.specs.Worker.{regs_by}
 
 -- ---- the registers that work leaves
@@ -236,6 +236,36 @@ none_behind_back c run front later small split safe =
     ∙ after_both first_machine (events_of front) (record { core = c; kind = kinds.Back })))
     behind
 
+-- ---- every run of two shares
+
+-- a run that may be made is safe
+made_safe : (run : List Entry) → CanBeMade run → IsSafeRun first_machine (events_of run)
+made_safe run made =
+    stories_are_safe (machine_at run) (turn_at run) 0 1 run run (record {
+      run = run;
+      leads = record { made = made; there = refl; turn_there = refl };
+      saw = record { later = []; splits = sym (append-nil run); none_own = refl };
+      saw' = record { later = []; splits = sym (append-nil run); none_own = refl };
+    })
+
+keeps_both : (left right : List Did) (run : List Entry) → IsRunOf left right run
+    → KeepsBoth left right run
+keeps_both left right run is =
+    let safe = made_safe run is.made in
+    record {
+      safe = safe;
+      resumes = λ c small r.
+          in_force c (share_of c left right) run (r.before ++ entry c (Made kinds.Back) ∷ []) r.later
+          small (r.split ∙ sym (append_assoc r.before (entry c (Made kinds.Back) ∷ []) r.later)) safe
+          (is.works c small) (none_behind_back c run r.before r.later small r.split safe);
+      ends = λ c small.
+          safe.keeps_own c small
+          ∙ (ap (last_set c (events_of run)) (own_at_first c small)
+          ∙ (last_by_work c run reset
+          ∙ (ap (regs_behind reset) (is.works c small)
+          ∙ sym (share_by_work (share_of c left right) reset))));
+    }
+
 -- ---- the run that both cores leave
 
 module _ {B : Type 0} (a b : Own B Did) (zero_is : a.core ≡ 0) (one_is : b.core ≡ 1)
@@ -251,18 +281,6 @@ module _ {B : Type 0} (a b : Own B Did) (zero_is : a.core ≡ 0) (one_is : b.cor
   pub parked_run : IsParkedRun a.share b.share
   parked_run = record {
     run = both.run;
-    made = both.made;
-    safe = both.safe;
-    works = each_work;
-    resumes = λ c small r.
-        in_force c (share_of c a.share b.share) both.run
-        (r.before ++ entry c (Made kinds.Back) ∷ []) r.later small
-        (r.split ∙ sym (append_assoc r.before (entry c (Made kinds.Back) ∷ []) r.later)) both.safe
-        (each_work c small) (none_behind_back c both.run r.before r.later small r.split both.safe);
-    ends = λ c small.
-        both.safe.keeps_own c small
-        ∙ (ap (last_set c (events_of both.run)) (own_at_first c small)
-        ∙ (last_by_work c both.run reset
-        ∙ (ap (regs_behind reset) (each_work c small)
-        ∙ sym (share_by_work (share_of c a.share b.share) reset))));
+    is = record { made = both.made; works = each_work };
+    each = keeps_both a.share b.share;
   }

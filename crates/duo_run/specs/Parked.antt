@@ -29,16 +29,24 @@ pub record HasOwnRegisters (c : ℕ) (share : List Did) (front : List Entry) : T
   pub regs : (record_of (machine_at front) c).regs ≡ regs_by reset did
 
 -- a run of the parking machine, of core 0 and core 1 that did these shares
-pub record IsParkedRun (left right : List Did) : Type 0 where
-  pub run : List Entry
+pub record IsRunOf (left right : List Did) (run : List Entry) : Type 0 where
   -- it begins with both cores at rest, and each event came where it may
   pub made : CanBeMade run
-  -- no core fetches while a step runs, and while one runs both cores are masked
-  pub safe : IsSafeRun first_machine (events_of run)
   -- a core's fetches, Sets, and begins and ends of steps in it are those of its share, in order
   pub works : (c : ℕ) → c < 2 → works_of (done_by c run) ≡ events_in (share_of c left right)
+
+-- what both cores keep in a run of these shares
+pub record KeepsBoth (left right : List Did) (run : List Entry) : Type 0 where
+  -- no core fetches while a step runs, and while one runs both cores are masked
+  pub safe : IsSafeRun first_machine (events_of run)
   -- wherever a core puts its registers back, however often it was parked, they are its own
   pub resumes : (c : ℕ) → c < 2 → (r : Resumes c run)
       → HasOwnRegisters c (share_of c left right) (r.before ++ entry c (Made Back) ∷ [])
   -- at the end its own registers are those of the last Set in its share
   pub ends : (c : ℕ) → c < 2 → own_of (machine_at run) c ≡ regs_by reset (share_of c left right)
+
+-- there is a run of these shares, and whichever of them the cores went through, they keep this in it
+pub record IsParkedRun (left right : List Did) : Type 0 where
+  pub run : List Entry
+  pub is : IsRunOf left right run
+  pub each : (any : List Entry) → IsRunOf left right any → KeepsBoth left right any

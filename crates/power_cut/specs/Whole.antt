@@ -179,7 +179,7 @@ pub record IsTrial (writes : Ran → Type 0)
   pub behind : BehindSession confirms layout first aim image
       (wants_boot upto && is_done session.leg.end) upto session.leg session.dev t
 
--- its last leg was made whole
+-- each of its legs was made whole
 abbrev pub AreDone : List Leg → Type 0
 AreDone [] = Unit {0}
 AreDone (leg ∷ legs) = (leg.end ≡ Done) × AreDone legs
