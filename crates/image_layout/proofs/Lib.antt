@@ -1,3 +1,4 @@
 mod Bytes
 mod HeadLemmas
 mod HeaderLemmas
+mod FooterLemmas

@@ -3,6 +3,7 @@
 ghost use Rattle.std.specs.Prelude.{◌≡◌, ◌<◌, ◌≤◌, ◌++◌, ℕ, List, All, length, take};
 ghost use Rattle.byteorder.specs.Endian.{little_bytes};
 ghost use Rattle.image_layout.specs.declared.header.Header.{Header};
+ghost use Rattle.image_layout.specs.Footer.{IsLeastAbove, footer_end};
 ghost use Rattle.image_layout.specs.Header.{header_of, header_bytes, IsSized};
 ghost use Rattle.image_layout.specs.Segment.{Segment, IsSegment, load_of};
 
@@ -18,4 +19,9 @@ pub fn headers_are_their_bytes()
 pub fn head_has_its_bytes()
     ensures { (at : ℕ) (s : Segment) → IsSegment at s → All (λ b. b < 256) s.head
         → s.head ≡ little_bytes 4 (load_of s) ++ little_bytes 4 (length s.content) }
+{}
+
+/// An image without its digest ends at the least multiple of 16 above its data.
+pub fn footers_are_least()
+    ensures { (n : ℕ) → IsLeastAbove n (footer_end n) }
 {}

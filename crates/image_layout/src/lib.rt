@@ -17,6 +17,6 @@ pub use checksum::xor_bytes;
 pub use description::AppDesc;
 pub use footer::footer_end;
 pub use header::Header;
-pub use laws::{head_has_its_bytes, headers_are_their_bytes};
+pub use laws::{footers_are_least, head_has_its_bytes, headers_are_their_bytes};
 pub use segment::SegmentHead;
 pub use space::{Space, is_code, is_data};

@@ -5,3 +5,4 @@ mod WholeLemmas
 mod ReadLemmas
 mod PlanLemmas
 mod MemoryLemmas
+mod LineLemmas

@@ -1,5 +1,6 @@
 pub mod Plan
 pub mod PlanText
+pub mod Lines
 pub mod Placing
 pub mod Parts
 pub mod Sizes

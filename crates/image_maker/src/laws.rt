@@ -1,9 +1,10 @@
 //! What plans make, over all plans.
 
-ghost use Rattle.std.specs.Prelude.{◌≡◌, ◌≢◌, ℕ, List, Ok, Err};
+ghost use Rattle.std.specs.Prelude.{◌≡◌, ◌≢◌, ◌↔◌, ℕ, List, Ok, Err};
 ghost use Rattle.image_maker.specs.declared.refusal.MakeNo.{MakeNo};
 ghost use Rattle.image_maker.specs.declared.refusal.PlanNo.{PlanNo};
 ghost use Rattle.image_maker.specs.Image.{IsMade, image_of};
+ghost use Rattle.image_maker.specs.Lines.{IsPlanOf};
 ghost use Rattle.image_maker.specs.Plan.{Planned};
 ghost use Rattle.image_maker.specs.PlanText.{plan_of_text};
 
@@ -11,6 +12,13 @@ ghost use Rattle.image_maker.specs.PlanText.{plan_of_text};
 pub fn made_images_are_whole()
     ensures whole { (text : List ℕ) (plan : Planned) (files : List (List ℕ)) (image : List ℕ)
         → plan_of_text text ≡ Ok plan → image_of plan files ≡ Ok image → IsMade plan files image }
+{}
+
+/// A text means this plan exactly where each of its lines that says something says one thing, the
+/// plan has all these things, the segments in order, and nothing else.
+pub fn plans_are_their_lines()
+    ensures exact { (text : List ℕ) (plan : Planned)
+        → (plan_of_text text ≡ Ok plan) ↔ IsPlanOf text plan }
 {}
 
 /// No text and no plan is refused for want of memory, which is no matter of what they mean.

@@ -14,6 +14,6 @@ mod refusal;
 mod tests;
 
 pub use image::make;
-pub use laws::{made_images_are_whole, memory_is_no_refusal};
+pub use laws::{made_images_are_whole, memory_is_no_refusal, plans_are_their_lines};
 pub use plan::Plan;
 pub use refusal::{MakeNo, PlanNo, PlanWhy};

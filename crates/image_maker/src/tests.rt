@@ -225,6 +225,24 @@ fn an_image_is_as_another_program_makes_it(rt: HostRuntime) -> Result<(), Fail> 
 }
 
 #[test]
+fn a_header_has_what_the_plan_says_of_the_flash(rt: HostRuntime) -> Result<(), Fail> {
+    let alloc = rt.alloc();
+    let files = vec![in alloc; vec![in alloc; 1u8, 2, 3, 4]?]?;
+    for (text, want) in [
+        (
+            b"flash 3 0x4F\nentry 1\nsegment 0x3F400020 a".as_slice(),
+            [0x03, 0x4F],
+        ),
+        (b"entry 1\nsegment 0x3F400020 a\nflash 255 0", [0xFF, 0x00]),
+        (b"entry 1\nsegment 0x3F400020 a", [0x02, 0x20]),
+    ] {
+        let made = image(alloc, text, &files)??;
+        assert_eq!(rt; made.get(2..4), Some(want.as_slice()), "at {text:?}");
+    }
+    Ok(())
+}
+
+#[test]
 fn padding_brings_code_to_its_page(rt: HostRuntime) -> Result<(), Fail> {
     let alloc = rt.alloc();
     let mut files = Vec::new(alloc);

@@ -95,10 +95,29 @@ fn the_first_fault_is_told(rt: HostRuntime) {
     }
 }
 
+/// The image whose segment has this length, less 256, and this lowest byte of its load address.
+fn headed(load: u8, length: u8) -> [u8; 80] {
+    let mut image = changed(24, load);
+    image[28] = length;
+    image[29] = 1;
+    image
+}
+
 #[test]
 fn lengths_are_told(rt: HostRuntime) {
     let mut longer = [0; 81];
     longer[..80].copy_from_slice(&IMAGE);
+    let odd = headed(0x24, 0x05);
+    let astray = headed(0x24, 0x04);
+    let large = headed(0x20, 0x04);
+    let length = BadImage::Length {
+        segment: 0,
+        length: 0x105,
+    };
+    let address = BadImage::Address {
+        segment: 0,
+        load: 0x3F40_0024,
+    };
     for (bytes, limit, want) in [
         (&IMAGE[..0], 80, BadImage::Short { have: 0, need: 24 }),
         (&IMAGE[..79], 80, BadImage::Short { have: 79, need: 80 }),
@@ -109,6 +128,17 @@ fn lengths_are_told(rt: HostRuntime) {
             BadImage::TooLarge {
                 need: 80,
                 limit: 79,
+            },
+        ),
+        // Of the faults of one head the length is told first, then the address, then the size.
+        (&odd[..], 80, length),
+        (&astray[..], 80, address),
+        (
+            &large[..],
+            80,
+            BadImage::TooLarge {
+                need: 336,
+                limit: 80,
             },
         ),
     ] {
@@ -136,4 +166,27 @@ fn a_slot_holds_the_image_that_it_begins_with(rt: HostRuntime) {
     }
     slot[79] ^= 1;
     assert_eq!(rt; verify_slot(&slot).is_none(), true, "a damaged slot");
+}
+
+/// An image of two segments of mapped data without a digest, by the format and Python's `struct`.
+const TWO_MAPPED: [u8; 64] = [
+    0xE9, 0x02, 0x02, 0x20, 0x00, 0x04, 0x08, 0x40, 0xEE, 0x00, 0x00, 0x00, 0x00, 0x00, 0x00, 0x00,
+    0x00, 0x00, 0x00, 0x00, 0x00, 0x00, 0x00, 0x00, 0x20, 0x00, 0x40, 0x3F, 0x04, 0x00, 0x00, 0x00,
+    0x01, 0x02, 0x03, 0x04, 0x2C, 0x00, 0x41, 0x3F, 0x04, 0x00, 0x00, 0x00, 0x05, 0x06, 0x07, 0x08,
+    0x00, 0x00, 0x00, 0x00, 0x00, 0x00, 0x00, 0x00, 0x00, 0x00, 0x00, 0x00, 0x00, 0x00, 0x00, 0xE7,
+];
+
+#[test]
+fn the_last_segment_of_a_space_is_mapped(rt: HostRuntime) {
+    let info = verify_by(64, &TWO_MAPPED, 64);
+    let last = SegmentNote {
+        load: 0x3F41_002C,
+        length: 4,
+        place: 44,
+    };
+    assert_eq!(rt;
+        info.map(|info| info.mapped(Space::Data)),
+        Ok(Some(last)),
+        "two of data"
+    );
 }

@@ -60,6 +60,13 @@ fn a_record_is_read_as_the_format_says(rt: HostRuntime) -> Result<(), Fail> {
         ("a,0,ota_15,,64K", row(0, 0x1F, 0x10000, 0x10000, "a", 0)),
         ("a,app,test,,4K", row(0, 0x20, 0x10000, 0x1000, "a", 0)),
         ("a,64,254,,4K", row(64, 254, 0x9000, 0x1000, "a", 0)),
+        ("a,app,1,,1m", row(0, 1, 0x10000, 0x100000, "a", 0)),
+        ("a,app,1,,1M", row(0, 1, 0x10000, 0x100000, "a", 0)),
+        ("a,data,1,,4096", row(1, 1, 0x9000, 0x1000, "a", 0)),
+        ("a,data,1,36k,0x4k", row(1, 1, 0x9000, 0x1000, "a", 0)),
+        ("a,data,1,36K,4K", row(1, 1, 0x9000, 0x1000, "a", 0)),
+        ("!,data,1,,4K", row(1, 1, 0x9000, 0x1000, "!", 0)),
+        ("~,data,1,,4K", row(1, 1, 0x9000, 0x1000, "~", 0)),
         (
             "a,data,fat,,4K,readonly:encrypted",
             row(1, 0x81, 0x9000, 0x1000, "a", 3),
@@ -90,6 +97,47 @@ fn a_record_is_read_as_the_format_says(rt: HostRuntime) -> Result<(), Fail> {
 }
 
 #[test]
+fn each_subtype_has_its_number(rt: HostRuntime) -> Result<(), Fail> {
+    for (name, subtype) in [
+        ("app,factory", 0x00),
+        ("app,ota_0", 0x10),
+        ("app,ota_1", 0x11),
+        ("app,ota_2", 0x12),
+        ("app,ota_3", 0x13),
+        ("app,ota_4", 0x14),
+        ("app,ota_5", 0x15),
+        ("app,ota_6", 0x16),
+        ("app,ota_7", 0x17),
+        ("app,ota_8", 0x18),
+        ("app,ota_9", 0x19),
+        ("app,ota_10", 0x1A),
+        ("app,ota_11", 0x1B),
+        ("app,ota_12", 0x1C),
+        ("app,ota_13", 0x1D),
+        ("app,ota_14", 0x1E),
+        ("app,ota_15", 0x1F),
+        ("app,test", 0x20),
+        ("data,ota", 0x00),
+        ("data,phy", 0x01),
+        ("data,nvs", 0x02),
+        ("data,coredump", 0x03),
+        ("data,nvs_keys", 0x04),
+        ("data,", 0x06),
+        ("data,fat", 0x81),
+        ("data,spiffs", 0x82),
+    ] {
+        let text = format!(in rt.alloc(); "a,{name},0x10000,64K")?;
+        let table = read_csv(rt.alloc(), text.as_bytes(), 0x400000)
+            .ok()
+            .ok_or(name)?;
+        let kind = if name.starts_with("app") { 0 } else { 1 };
+        let want = row(kind, subtype, 0x10000, 0x10000, "a", 0);
+        assert_eq!(rt; table.rows(), [want].as_slice(), "{name}");
+    }
+    Ok(())
+}
+
+#[test]
 fn a_source_is_refused_by_record_and_cause(rt: HostRuntime) {
     let at = |number, why| CsvNo::At { number, why };
     for (text, want) in [
@@ -97,11 +145,15 @@ fn a_source_is_refused_by_record_and_cause(rt: HostRuntime) {
         (",data,nvs,,4K", at(1, CsvWhy::Name)),
         ("abcdefghijklmnopq,data,nvs,,4K", at(1, CsvWhy::Name)),
         ("a b,data,nvs,,4K", at(1, CsvWhy::Name)),
+        (" ,data,nvs,,4K", at(1, CsvWhy::Name)),
+        ("\u{7F},data,nvs,,4K", at(1, CsvWhy::Name)),
         ("a,apple,nvs,,4K", at(1, CsvWhy::Kind)),
         ("a,255,1,,4K", at(1, CsvWhy::Kind)),
         ("a, app, , , 1M,", at(1, CsvWhy::Subtype)),
         ("a,app,nvs,,1M", at(1, CsvWhy::Subtype)),
         ("a,app,ota_16,,1M", at(1, CsvWhy::Subtype)),
+        ("a,data,efuse,,4K", at(1, CsvWhy::Subtype)),
+        ("a,data,undefined,,4K", at(1, CsvWhy::Subtype)),
         ("a,data,nvs,x,4K", at(1, CsvWhy::Offset)),
         (
             "a,data,nvs,0xFFFFFFFF,0xFFFFFFFF\nb,data,nvs,,4K",

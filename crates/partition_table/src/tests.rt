@@ -218,6 +218,30 @@ fn rows_are_refused_by_the_first_rule_that_they_break(rt: HostRuntime) {
             TableBad::TwoOf { a: 0, b: 1 },
             "two tests",
         ),
+        (
+            row(0, 0x00, 0x10000, 0x10000),
+            row(0, 0x00, 0x20000, 0x10000),
+            TableBad::TwoOf { a: 0, b: 1 },
+            "two factories",
+        ),
+        (
+            row(0, 0x10, 0x10000, 0x10000),
+            row(0, 0x10, 0x20000, 0x10000),
+            TableBad::TwoOf { a: 0, b: 1 },
+            "two of ota_0",
+        ),
+        (
+            row(0, 0x1F, 0x10000, 0x10000),
+            row(0, 0x1F, 0x20000, 0x10000),
+            TableBad::TwoOf { a: 0, b: 1 },
+            "two of ota_15",
+        ),
+        (
+            row(1, 0x00, 0x9000, 0x2000),
+            row(1, 0x00, 0xB000, 0x2000),
+            TableBad::TwoOf { a: 0, b: 1 },
+            "two of OTA data",
+        ),
     ] {
         assert_eq!(rt;
             Table::of_rows(&[first, second], 0x400000),
@@ -237,6 +261,16 @@ fn rows_are_refused_by_the_first_rule_that_they_break(rt: HostRuntime) {
         Table::of_rows(&[data, app, touching], 0x400000).is_ok(),
         "touching rows"
     );
+    for (kind, subtype) in [(0, 0x0F), (0, 0x21), (1, 0x01), (1, 0x10), (2, 0x00)] {
+        let (first, second) = (
+            row(kind, subtype, 0x10000, 0x10000),
+            row(kind, subtype, 0x20000, 0x10000),
+        );
+        assert!(rt;
+            Table::of_rows(&[first, second], 0x400000).is_ok(),
+            "two of type {kind} and subtype {subtype}"
+        );
+    }
 }
 
 #[test]
