@@ -1,3 +1,5 @@
 pub mod EachEvent
 pub mod StepKeeps
 pub mod RunLemmas
+pub mod Waits
+pub mod WayHome

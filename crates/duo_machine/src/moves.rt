@@ -4,6 +4,7 @@ ghost use Rattle.std.specs.Int.{IsBitSet};
 ghost use Rattle.duo_machine.specs.Table.{CanHappen, after, bit_of};
 ghost use Rattle.duo_machine.specs.Runs.{AreOfTwoCores, CanRun, after_all, IsSafeRun};
 ghost use Rattle.duo_machine.specs.Safe.{Safe};
+ghost use Rattle.duo_machine.specs.WaysOut.{EachMachineHasAWayHome, EachWaitEnds};
 ghost use Rattle.duo_machine.specs.declared.machine.Machine.{Machine};
 ghost use Rattle.duo_machine.specs.declared.events.Event.{Event};
 
@@ -43,6 +44,18 @@ pub fn run(m: &Machine, events: &[Event]) -> Option<Machine>
 pub fn every_run_is_safe()
     ensures { (m : Machine) (events : List Event) →
         Safe m → AreOfTwoCores events → CanRun m events → IsSafeRun m events }
+{}
+
+/// No safe machine is stuck: by at most eight events, none of which begins anything new, both cores
+/// come to run with nothing saved, each with its own registers in force, and the lock is free.
+pub fn every_machine_has_a_way_home()
+    ensures { EachMachineHasAWayHome }
+{}
+
+/// Each wait of a core ends by at most two events of the other core alone, but where the core is
+/// asked to park: there it has to park first.
+pub fn every_wait_ends()
+    ensures { EachWaitEnds }
 {}
 
 /// Whether the guard of the event holds.
