@@ -3,3 +3,4 @@ pub mod StepKeeps
 pub mod RunLemmas
 pub mod Waits
 pub mod WayHome
+pub mod EachWay

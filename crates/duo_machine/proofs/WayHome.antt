@@ -17,13 +17,13 @@ use Rattle.duo_machine.specs.Machine.{own_of}
 use Rattle.duo_machine.specs.Safe.{SafeAt, Safe}
 use Rattle.duo_machine.specs.Table.{Allows, changed}
 use Rattle.duo_machine.specs.Runs.{set_by}
-use Rattle.duo_machine.specs.WaysOut.{BeginsNothing, HasWayHome}
+use Rattle.duo_machine.specs.WaysOut.{BeginsNothing, IsHome, HasWayHome}
 use Rattle.duo_machine.proofs.StepKeeps.{of_two, by_two, event_keeps_safe}
 use Rattle.duo_machine.proofs.RunLemmas.{none_saved, event_keeps_own}
 use Rattle.duo_machine.proofs.Waits.{no_event, in_front, at_most, saved_or_none, runs_or_not, asking_is_saved}
 
 -- an event that begins nothing new sets no registers
-nothing_set : (b : Bool) (kind : Kind) (own : Regs) → BeginsNothing kind
+pub nothing_set : (b : Bool) (kind : Kind) (own : Regs) → BeginsNothing kind
     → (if b then set_by kind own else own) ≡ own
 nothing_set false kind own nothing = refl
 nothing_set true (Set wanted) own nothing = absurd nothing
@@ -43,15 +43,17 @@ go m c kind core nothing safe can rest =
       way = e ∷ home.way;
       of_two_cores = (core, home.of_two_cores);
       is_way_out = in_front e nothing can home.is_way_out;
-      cores = λ d small. let there = home.cores d small in record {
-        phase = there.phase;
-        gate = there.gate;
-        none_saved = there.none_saved;
-        in_force = there.in_force ∙ same d small;
+      home = record {
+        cores = λ d small. let there = home.home.cores d small in record {
+          phase = there.phase;
+          gate = there.gate;
+          none_saved = there.none_saved;
+          in_force = there.in_force ∙ same d small;
+        };
+        keeps_own = λ d small. home.home.keeps_own d small ∙ same d small;
+        free = home.home.free;
+        idle = home.home.idle;
       };
-      keeps_own = λ d small. home.keeps_own d small ∙ same d small;
-      free = home.free;
-      idle = home.idle;
     }
 
 -- a way of few events is one of at most more
@@ -60,18 +62,15 @@ more below home = record {
   way = home.way;
   of_two_cores = home.of_two_cores;
   is_way_out = at_most below home.is_way_out;
-  cores = home.cores;
-  keeps_own = home.keeps_own;
-  free = home.free;
-  idle = home.idle;
+  home = home.home;
 }
 
 -- a core in this phase neither asks nor is quiet
-abbrev IsCalm : Phase → Type 0
+abbrev pub IsCalm : Phase → Type 0
 IsCalm phase = (phase ≢ Quiet) × (phase ≢ Asking)
 
 -- a core is quiet, or asks, or does neither
-calm_or_not : (phase : Phase) → (phase ≡ Quiet) ⊎ (phase ≡ Asking) ⊎ IsCalm phase
+pub calm_or_not : (phase : Phase) → (phase ≡ Quiet) ⊎ (phase ≡ Asking) ⊎ IsCalm phase
 calm_or_not Resting = inr (inr ((λ is. absurd (cc)), (λ is. absurd (cc))))
 calm_or_not Running = inr (inr ((λ is. absurd (cc)), (λ is. absurd (cc))))
 calm_or_not Owning = inr (inr ((λ is. absurd (cc)), (λ is. absurd (cc))))
@@ -86,7 +85,7 @@ pub record AtHome (gate : Gate) (phase : Phase) (registers : Record) : Type 0 wh
   pub none : IsNone registers.saved
 
 -- what a core may be in that goes home by itself
-abbrev GoesHome : ℕ → ℕ → Gate → Phase → Record → Type 0
+abbrev pub GoesHome : ℕ → ℕ → Gate → Phase → Record → Type 0
 GoesHome c lock gate phase registers =
     ((phase ≡ Resting) × (gate ≡ AtRest) × IsSome registers.saved)
     ⊎ ((phase ≡ Parked) × (gate ≡ Freed) × IsSome registers.saved)
@@ -100,7 +99,7 @@ module _ {c o lock : ℕ} {gate gate' : Gate} {phase phase' : Phase}
     (theirs : SafeAt o lock gate' phase' phase registers' running)
   where
     -- a core goes home by itself where neither core asks or is quiet
-    goes_home : IsCalm phase → IsCalm phase' → GoesHome c lock gate phase registers
+    pub goes_home : IsCalm phase → IsCalm phase' → GoesHome c lock gate phase registers
     goes_home calm calm' = by_phase phase refl
       where
         by_phase : (p : Phase) → phase ≡ p → GoesHome c lock gate phase registers
@@ -119,17 +118,14 @@ module _ {c o lock : ℕ} {gate gate' : Gate} {phase phase' : Phase}
     home_is_free : phase ≡ Running → phase' ≡ Running → (lock ≡ 0) × (running ≡ None)
     home_is_free runs runs' = (grind arith, grind arith)
 
--- both cores are home
-arrived : {lock : ℕ} {gate gate' : Gate} {phase phase' : Phase} {registers registers' : Record}
+-- where both cores are home the machine is
+pub at_home : {lock : ℕ} {gate gate' : Gate} {phase phase' : Phase} {registers registers' : Record}
     {running : Option ℕ} → Safe (of_two lock gate gate' phase phase' registers registers' running)
     → AtHome gate phase registers → AtHome gate' phase' registers'
-    → HasWayHome 0 (of_two lock gate gate' phase phase' registers registers' running)
-arrived {registers = registers} {registers' = registers'} safe home home' =
+    → IsHome (of_two lock gate gate' phase phase' registers registers' running) (of_two lock gate gate' phase phase' registers registers' running)
+at_home {registers = registers} {registers' = registers'} safe home home' =
     let still = home_is_free refl safe.zero_safe safe.one_safe home.phase_is home'.phase_is in
     record {
-      way = [];
-      of_two_cores = tt;
-      is_way_out = no_event;
       cores = elim [
         | zero ↦ λ small. record {
           phase = home.phase_is;
@@ -149,6 +145,18 @@ arrived {registers = registers} {registers' = registers'} safe home home' =
       free = still.0;
       idle = still.1;
     }
+
+-- then no event is needed
+arrived : {lock : ℕ} {gate gate' : Gate} {phase phase' : Phase} {registers registers' : Record}
+    {running : Option ℕ} → Safe (of_two lock gate gate' phase phase' registers registers' running)
+    → AtHome gate phase registers → AtHome gate' phase' registers'
+    → HasWayHome 0 (of_two lock gate gate' phase phase' registers registers' running)
+arrived safe home home' = record {
+  way = [];
+  of_two_cores = tt;
+  is_way_out = no_event;
+  home = at_home safe home home';
+}
 
 -- core 0 goes home by itself
 zero_goes : {most lock : ℕ} {gate gate' : Gate} {phase phase' : Phase} {registers registers' : Record}

@@ -5,10 +5,10 @@ use Rattle.duo_machine.specs.declared.machine.Gate.TheVariants.{Run, Asked, Free
 use Rattle.duo_machine.specs.declared.machine.Phase.TheVariants.{Resting, Running, Owning, Asking, Parked}
 use Rattle.duo_machine.specs.declared.machine.Machine.{Machine}
 use Rattle.duo_machine.specs.declared.events.Kind.{Kind}
-use Rattle.duo_machine.specs.declared.events.Kind.TheVariants.{Start, Rest, Take, Save, Hold, Ask, Park, See, Begin, Leave, Set, Fetch}
+use Rattle.duo_machine.specs.declared.events.Kind.TheVariants.{Start, Rest, Take, Save, Back, Hold, Ask, Park, See, Begin, Leave, Set, Fetch}
 use Rattle.duo_machine.specs.declared.events.Event.{Event}
 use Rattle.duo_machine.specs.Machine.{other, gate_of, phase_of, record_of, own_of}
-use Rattle.duo_machine.specs.Table.{Allows, changed, HasSaved, HasNoneSaved}
+use Rattle.duo_machine.specs.Table.{Allows, changed, CanHappen, after, HasSaved, HasNoneSaved}
 use Rattle.duo_machine.specs.Runs.{AreOfTwoCores, CanRun, after_all}
 use Rattle.duo_machine.specs.Safe.{Safe}
 
@@ -51,20 +51,47 @@ pub record IsCoreHome (m : Machine) (c : ℕ) (registers : Regs) : Type 0 where
   pub none_saved : HasNoneSaved m c
   pub in_force : (record_of m c).regs ≡ registers
 
--- there is a way home: at most so many events of both cores
+-- the machine that is reached is home, whichever registers were a core's own before
+pub record IsHome (before there : Machine) : Type 0 where
+  -- both cores are home, and the registers in force are those that were their own
+  pub cores : (c : ℕ) → c < 2 → IsCoreHome there c (own_of before c)
+  -- these still are their own
+  pub keeps_own : (c : ℕ) → c < 2 → own_of there c ≡ own_of before c
+  -- the lock is free
+  pub free : there.lock ≡ 0
+  -- no step runs
+  pub idle : there.running ≡ None
+
+-- there is a way home, of at most so many events of both cores
 pub record HasWayHome (most : ℕ) (m : Machine) : Type 0 where
   pub way : List Event
-  -- the events are of core 0 or core 1, and a way out
   pub of_two_cores : AreOfTwoCores way
   pub is_way_out : IsWayOut most m way
-  -- then both cores are home, with the registers in force that were their own before
-  pub cores : (c : ℕ) → c < 2 → IsCoreHome (after_all m way) c (own_of m c)
-  -- these are still their own
-  pub keeps_own : (c : ℕ) → c < 2 → own_of (after_all m way) c ≡ own_of m c
-  -- the lock is free
-  pub free : (after_all m way).lock ≡ 0
-  -- no step runs
-  pub idle : (after_all m way).running ≡ None
+  pub home : IsHome m (after_all m way)
+
+-- what an event that winds up is: it saves only where its core is asked to park, puts registers back
+-- only where it is not, and else begins nothing new
+abbrev pub IsWindingUp : Machine → ℕ → Kind → Type 0
+IsWindingUp m c Save = gate_of m c ≡ Asked
+IsWindingUp m c Back = gate_of m c ≢ Asked
+IsWindingUp m c kind = BeginsNothing kind
+
+-- the event may happen next, and winds up
+pub record WindsUp (m : Machine) (e : Event) : Type 0 where
+  pub core : e.core < 2
+  pub can : CanHappen m e
+  pub winds_up : IsWindingUp m e.core e.kind
+
+-- each event winds up when its turn comes
+abbrev pub WindUp : Machine → List Event → Type 0
+WindUp m [] = Unit {0}
+WindUp m (e ∷ events) = WindsUp m e × WindUp (after m e) events
+
+-- events that wind up lead home, whichever they are: there are at most eight, and both cores are
+-- home where no event is left that winds up
+pub record LeadHome (m : Machine) (events : List Event) : Type 0 where
+  pub few : length events ≤ 8
+  pub home : ((e : Event) → ¬ WindsUp (after_all m events) e) → IsHome m (after_all m events)
 
 -- the other core alone can bring this about, by at most so many events that begin nothing new
 pub record OtherBrings (most : ℕ) (m : Machine) (c : ℕ) (Wanted : Machine → Type 0) : Type 0 where
@@ -121,6 +148,10 @@ pub record WaitsEnd (m : Machine) (c : ℕ) : Type 0 where
 -- from every safe machine at most eight events lead home
 abbrev pub EachMachineHasAWayHome : Type 0
 EachMachineHasAWayHome = (m : Machine) → Safe m → HasWayHome 8 m
+
+-- from every safe machine all events that wind up lead home, in whatever order both cores make them
+abbrev pub EachWayLeadsHome : Type 0
+EachWayLeadsHome = (m : Machine) (events : List Event) → Safe m → WindUp m events → LeadHome m events
 
 -- in every safe machine each wait of each core ends
 abbrev pub EachWaitEnds : Type 0
