@@ -5,22 +5,21 @@ use Rattle.std.specs.Prelude.{IsSome, IsNone}
 use Rattle.core_state.specs.declared.registers.Regs.{Regs}
 use Rattle.core_state.specs.declared.registers.Record.{Record}
 use Rattle.duo_machine.specs.declared.machine.Gate.{Gate}
-use Rattle.duo_machine.specs.declared.machine.Gate.TheVariants.{Rest as AtRest, Run, Asked, Parked as AtParked, Freed, Held}
+use Rattle.duo_machine.specs.declared.machine.Gate.TheVariants.{Run, Asked}
 use Rattle.duo_machine.specs.declared.machine.Phase.{Phase}
 use Rattle.duo_machine.specs.declared.machine.Phase.TheVariants.{Resting, Running, Owning, Asking, Quiet, Parked}
 use Rattle.duo_machine.specs.declared.machine.Machine.{Machine}
 use Rattle.duo_machine.specs.declared.events.Kind.{Kind}
 use Rattle.duo_machine.specs.declared.events.Kind.TheVariants.{Start, Rest, Take, Give, Save, Back, Hold, Ask, Park, See, Begin, Done, End, Leave, Set, Fetch}
 use Rattle.duo_machine.specs.declared.events.Event.{Event}
-use Rattle.duo_machine.specs.Machine.{gate_of, phase_of, record_of, own_of, let_go, KeepsAway}
+use Rattle.duo_machine.specs.Machine.{gate_of, phase_of, record_of, own_of}
 use Rattle.duo_machine.specs.Safe.{SafeAt, Safe}
-use Rattle.duo_machine.specs.Table.{Allows, changed, after, IsAwake}
+use Rattle.duo_machine.specs.Table.{Allows, changed, after}
 use Rattle.duo_machine.specs.Runs.{after_all}
-use Rattle.duo_machine.specs.WaysOut.{BeginsNothing, IsWindingUp, WindsUp, WindUp, IsHome, LeadHome}
+use Rattle.duo_machine.specs.WaysOut.{IsWindingUp, WindsUp, WindUp, IsHome, LeadHome}
 use Rattle.duo_machine.proofs.StepKeeps.{of_two, by_two, event_keeps_safe}
-use Rattle.duo_machine.proofs.RunLemmas.{event_keeps_own}
 use Rattle.duo_machine.proofs.Waits.{saved_or_none, runs_or_not}
-use Rattle.duo_machine.proofs.WayHome.{nothing_set, IsCalm, calm_or_not, GoesHome, goes_home, AtHome, at_home}
+use Rattle.duo_machine.proofs.WayHome.{winding_keeps_own, IsCalm, GoesHome, goes_home, AtHome, at_home}
 
 -- 1 where the first holds
 one_of : {A B : Type 0} → A ⊎ B → ℕ
@@ -92,7 +91,6 @@ far_of_small m =
     let one_far = far_small 1 (gate_of m 1) (phase_of m 1) (record_of m 1).saved m.running in
     omega arith
 
-
 none_is : (saved : Option Regs) → IsNone saved → one_of (saved_or_none saved) ≡ 0
 unfolding one_of
 none_is saved none = by (saved_or_none saved)
@@ -136,77 +134,77 @@ record IsFar
   is : far c gate phase saved running ≡ n
 
 module _ {c : ℕ} {gate : Gate} {phase : Phase} {saved : Option Regs} {running : Option ℕ} where
-    from_resting : phase ≡ Resting → IsFar c gate phase saved running 2
-    unfolding far
-    from_resting is = record {
-      is = ap (λ p. far c gate p saved running) is;
-    }
+  from_resting : phase ≡ Resting → IsFar c gate phase saved running 2
+  unfolding far
+  from_resting is = record {
+    is = ap (λ p. far c gate p saved running) is;
+  }
 
-    from_parked : phase ≡ Parked → IsFar c gate phase saved running 2
-    unfolding far
-    from_parked is = record {
-      is = ap (λ p. far c gate p saved running) is;
-    }
+  from_parked : phase ≡ Parked → IsFar c gate phase saved running 2
+  unfolding far
+  from_parked is = record {
+    is = ap (λ p. far c gate p saved running) is;
+  }
 
-    from_asking : phase ≡ Asking → IsFar c gate phase saved running 4
-    unfolding far
-    from_asking is = record {
-      is = ap (λ p. far c gate p saved running) is;
-    }
+  from_asking : phase ≡ Asking → IsFar c gate phase saved running 4
+  unfolding far
+  from_asking is = record {
+    is = ap (λ p. far c gate p saved running) is;
+  }
 
-    from_step : phase ≡ Quiet → running ≡ Some c → IsFar c gate phase saved running 4
-    unfolding far
-    from_step is runs = record {
-      is = ap (λ p. far c gate p saved running) is
+  from_step : phase ≡ Quiet → running ≡ Some c → IsFar c gate phase saved running 4
+  unfolding far
+  from_step is runs = record {
+    is = ap (λ p. far c gate p saved running) is
         ∙ ap (λ n. 3 + n) (is_one (runs_or_not c running) runs);
-    }
+  }
 
-    from_quiet : phase ≡ Quiet → running ≢ Some c → IsFar c gate phase saved running 3
-    unfolding far
-    from_quiet is idle = record {
-      is = ap (λ p. far c gate p saved running) is
+  from_quiet : phase ≡ Quiet → running ≢ Some c → IsFar c gate phase saved running 3
+  unfolding far
+  from_quiet is idle = record {
+    is = ap (λ p. far c gate p saved running) is
         ∙ ap (λ n. 3 + n) (is_none (runs_or_not c running) idle);
-    }
+  }
 
-    from_owning : phase ≡ Owning → IsNone saved → IsFar c gate phase saved running 1
-    unfolding far
-    from_owning is none = record {
-      is = ap (λ p. far c gate p saved running) is ∙ ap (λ n. 1 + n) (none_is saved none);
-    }
+  from_owning : phase ≡ Owning → IsNone saved → IsFar c gate phase saved running 1
+  unfolding far
+  from_owning is none = record {
+    is = ap (λ p. far c gate p saved running) is ∙ ap (λ n. 1 + n) (none_is saved none);
+  }
 
-    from_masked_owning : phase ≡ Owning → IsSome saved → IsFar c gate phase saved running 2
-    unfolding far
-    from_masked_owning is some = record {
-      is = ap (λ p. far c gate p saved running) is ∙ ap (λ n. 1 + n) (some_is saved some);
-    }
+  from_masked_owning : phase ≡ Owning → IsSome saved → IsFar c gate phase saved running 2
+  unfolding far
+  from_masked_owning is some = record {
+    is = ap (λ p. far c gate p saved running) is ∙ ap (λ n. 1 + n) (some_is saved some);
+  }
 
-    from_run : phase ≡ Running → gate ≡ Run → IsNone saved → IsFar c gate phase saved running 0
-    unfolding far
-    from_run is at held = record {
-      is = ap (λ p. far c gate p saved running) is ∙ ap (λ g. from_running g saved) at
+  from_run : phase ≡ Running → gate ≡ Run → IsNone saved → IsFar c gate phase saved running 0
+  unfolding far
+  from_run is at held = record {
+    is = ap (λ p. far c gate p saved running) is ∙ ap (λ g. from_running g saved) at
         ∙ from_run_by saved held;
-    }
+  }
 
-    from_masked_run : phase ≡ Running → gate ≡ Run → IsSome saved → IsFar c gate phase saved running 1
-    unfolding far
-    from_masked_run is at held = record {
-      is = ap (λ p. far c gate p saved running) is ∙ ap (λ g. from_running g saved) at
+  from_masked_run : phase ≡ Running → gate ≡ Run → IsSome saved → IsFar c gate phase saved running 1
+  unfolding far
+  from_masked_run is at held = record {
+    is = ap (λ p. far c gate p saved running) is ∙ ap (λ g. from_running g saved) at
         ∙ from_masked_run_by saved held;
-    }
+  }
 
-    from_asked : phase ≡ Running → gate ≡ Asked → IsNone saved → IsFar c gate phase saved running 4
-    unfolding far
-    from_asked is at held = record {
-      is = ap (λ p. far c gate p saved running) is ∙ ap (λ g. from_running g saved) at
+  from_asked : phase ≡ Running → gate ≡ Asked → IsNone saved → IsFar c gate phase saved running 4
+  unfolding far
+  from_asked is at held = record {
+    is = ap (λ p. far c gate p saved running) is ∙ ap (λ g. from_running g saved) at
         ∙ from_asked_by saved held;
-    }
+  }
 
-    from_masked_asked : phase ≡ Running → gate ≡ Asked → IsSome saved → IsFar c gate phase saved running 3
-    unfolding far
-    from_masked_asked is at held = record {
-      is = ap (λ p. far c gate p saved running) is ∙ ap (λ g. from_running g saved) at
+  from_masked_asked : phase ≡ Running → gate ≡ Asked → IsSome saved → IsFar c gate phase saved running 3
+  unfolding far
+  from_masked_asked is at held = record {
+    is = ap (λ p. far c gate p saved running) is ∙ ap (λ g. from_running g saved) at
         ∙ from_masked_asked_by saved held;
-    }
+  }
 
 -- one fewer
 down : {c n : ℕ} {gate gate' : Gate} {phase phase' : Phase} {saved saved' : Option Regs}
@@ -293,12 +291,12 @@ zero_lowers Save s can w =
     let runs = s.zero_safe.gate_fits.asked w in
     nearer (down (from_masked_asked runs w refl) (from_asked runs w can.1)) refl
 zero_lowers Back s can w = elim can.0 [
-    | inl runs ↦
-        let at = running_gate refl s.zero_safe s.one_safe runs w in
-        nearer (down (from_run runs at refl) (from_masked_run runs at can.1)) refl
-    | inr owns ↦
-        nearer (down (from_owning owns refl) (from_masked_owning owns can.1)) refl
-  ]
+  | inl runs ↦
+      let at = running_gate refl s.zero_safe s.one_safe runs w in
+      nearer (down (from_run runs at refl) (from_masked_run runs at can.1)) refl
+  | inr owns ↦
+      nearer (down (from_owning owns refl) (from_masked_owning owns can.1)) refl
+]
 zero_lowers Hold s can w = absurd w
 zero_lowers Ask s can w = absurd w
 zero_lowers Park s can w =
@@ -325,11 +323,11 @@ zero_not_quiet : {lock : ℕ} {gate gate' : Gate} {phase phase' : Phase}
     → Safe (of_two lock gate gate' phase phase' registers registers' running)
     → IsStuck (of_two lock gate gate' phase phase' registers registers' running) → phase ≢ Quiet
 zero_not_quiet {running = running} s stuck quiet = elim (runs_or_not 0 running) [
-    | inl runs ↦ stops stuck 0 Done (omega arith) (quiet, runs) tt
-    | inr idle ↦
-        stops stuck 0 End (omega arith)
-        (quiet, idle, s.one_safe.gate_has_reason.quiet quiet) tt
-  ]
+  | inl runs ↦ stops stuck 0 Done (omega arith) (quiet, runs) tt
+  | inr idle ↦
+      stops stuck 0 End (omega arith)
+      (quiet, idle, s.one_safe.gate_has_reason.quiet quiet) tt
+]
 
 -- and does not ask
 zero_not_asking : {lock : ℕ} {gate gate' : Gate} {phase phase' : Phase}
@@ -353,20 +351,20 @@ zero_arrived : {lock : ℕ} {gate gate' : Gate} {phase phase' : Phase}
     → IsStuck (of_two lock gate gate' phase phase' registers registers' running)
     → GoesHome 0 lock gate phase registers → AtHome gate phase registers
 zero_arrived {registers = registers} {registers' = registers'} stuck goes = elim goes [
-    | inl rests ↦ absurd (stops stuck 0 Start (omega arith) (rests.0, rests.1) tt)
-    | inr (inl parked) ↦ absurd (stops stuck 0 Leave (omega arith) (parked.0, parked.1) tt)
-    | inr (inr (inl runs)) ↦ elim (saved_or_none registers.saved) [
-      | inl saved ↦
-          absurd (stops stuck 0 Back (omega arith) (inl runs.0, saved) (λ asked. absurd (cc)))
-      | inr none ↦ record { phase_is = runs.0; gate_is = runs.1; none = none }
-    ]
-    | inr (inr (inr owns)) ↦ elim (saved_or_none registers.saved) [
-      | inl saved ↦
-          absurd (stops stuck 0 Back (omega arith) (inr owns.0, saved) (λ asked. absurd (cc)))
-      | inr none ↦
-          absurd (stops stuck 0 Give (omega arith) (owns.0, none, owns.2) tt)
-    ]
+  | inl rests ↦ absurd (stops stuck 0 Start (omega arith) (rests.0, rests.1) tt)
+  | inr (inl parked) ↦ absurd (stops stuck 0 Leave (omega arith) (parked.0, parked.1) tt)
+  | inr (inr (inl runs)) ↦ elim (saved_or_none registers.saved) [
+    | inl saved ↦
+        absurd (stops stuck 0 Back (omega arith) (inl runs.0, saved) (λ asked. absurd (cc)))
+    | inr none ↦ record { phase_is = runs.0; gate_is = runs.1; none = none }
   ]
+  | inr (inr (inr owns)) ↦ elim (saved_or_none registers.saved) [
+    | inl saved ↦
+        absurd (stops stuck 0 Back (omega arith) (inr owns.0, saved) (λ asked. absurd (cc)))
+    | inr none ↦
+        absurd (stops stuck 0 Give (omega arith) (owns.0, none, owns.2) tt)
+  ]
+]
 
 -- each event of core 1 that winds up brings home one nearer
 one_lowers : (kind : Kind) {lock : ℕ} {gate gate' : Gate} {phase phase' : Phase}
@@ -389,12 +387,12 @@ one_lowers Save s can w =
     let runs = s.one_safe.gate_fits.asked w in
     nearer_back (down (from_masked_asked runs w refl) (from_asked runs w can.1)) refl
 one_lowers Back s can w = elim can.0 [
-    | inl runs ↦
-        let at = running_gate refl s.one_safe s.zero_safe runs w in
-        nearer_back (down (from_run runs at refl) (from_masked_run runs at can.1)) refl
-    | inr owns ↦
-        nearer_back (down (from_owning owns refl) (from_masked_owning owns can.1)) refl
-  ]
+  | inl runs ↦
+      let at = running_gate refl s.one_safe s.zero_safe runs w in
+      nearer_back (down (from_run runs at refl) (from_masked_run runs at can.1)) refl
+  | inr owns ↦
+      nearer_back (down (from_owning owns refl) (from_masked_owning owns can.1)) refl
+]
 one_lowers Hold s can w = absurd w
 one_lowers Ask s can w = absurd w
 one_lowers Park s can w =
@@ -421,11 +419,11 @@ one_not_quiet : {lock : ℕ} {gate gate' : Gate} {phase phase' : Phase}
     → Safe (of_two lock gate gate' phase phase' registers registers' running)
     → IsStuck (of_two lock gate gate' phase phase' registers registers' running) → phase' ≢ Quiet
 one_not_quiet {running = running} s stuck quiet = elim (runs_or_not 1 running) [
-    | inl runs ↦ stops stuck 1 Done (omega arith) (quiet, runs) tt
-    | inr idle ↦
-        stops stuck 1 End (omega arith)
-        (quiet, idle, s.zero_safe.gate_has_reason.quiet quiet) tt
-  ]
+  | inl runs ↦ stops stuck 1 Done (omega arith) (quiet, runs) tt
+  | inr idle ↦
+      stops stuck 1 End (omega arith)
+      (quiet, idle, s.zero_safe.gate_has_reason.quiet quiet) tt
+]
 
 -- and does not ask
 one_not_asking : {lock : ℕ} {gate gate' : Gate} {phase phase' : Phase}
@@ -449,20 +447,20 @@ one_arrived : {lock : ℕ} {gate gate' : Gate} {phase phase' : Phase}
     → IsStuck (of_two lock gate gate' phase phase' registers registers' running)
     → GoesHome 1 lock gate' phase' registers' → AtHome gate' phase' registers'
 one_arrived {registers = registers} {registers' = registers'} stuck goes = elim goes [
-    | inl rests ↦ absurd (stops stuck 1 Start (omega arith) (rests.0, rests.1) tt)
-    | inr (inl parked) ↦ absurd (stops stuck 1 Leave (omega arith) (parked.0, parked.1) tt)
-    | inr (inr (inl runs)) ↦ elim (saved_or_none registers'.saved) [
-      | inl saved ↦
-          absurd (stops stuck 1 Back (omega arith) (inl runs.0, saved) (λ asked. absurd (cc)))
-      | inr none ↦ record { phase_is = runs.0; gate_is = runs.1; none = none }
-    ]
-    | inr (inr (inr owns)) ↦ elim (saved_or_none registers'.saved) [
-      | inl saved ↦
-          absurd (stops stuck 1 Back (omega arith) (inr owns.0, saved) (λ asked. absurd (cc)))
-      | inr none ↦
-          absurd (stops stuck 1 Give (omega arith) (owns.0, none, owns.2) tt)
-    ]
+  | inl rests ↦ absurd (stops stuck 1 Start (omega arith) (rests.0, rests.1) tt)
+  | inr (inl parked) ↦ absurd (stops stuck 1 Leave (omega arith) (parked.0, parked.1) tt)
+  | inr (inr (inl runs)) ↦ elim (saved_or_none registers'.saved) [
+    | inl saved ↦
+        absurd (stops stuck 1 Back (omega arith) (inl runs.0, saved) (λ asked. absurd (cc)))
+    | inr none ↦ record { phase_is = runs.0; gate_is = runs.1; none = none }
   ]
+  | inr (inr (inr owns)) ↦ elim (saved_or_none registers'.saved) [
+    | inl saved ↦
+        absurd (stops stuck 1 Back (omega arith) (inr owns.0, saved) (λ asked. absurd (cc)))
+    | inr none ↦
+        absurd (stops stuck 1 Give (omega arith) (owns.0, none, owns.2) tt)
+  ]
+]
 
 -- where no event is left that winds up, both cores are home
 stuck_of_two : (lock : ℕ) (gate gate' : Gate) (phase phase' : Phase) (registers registers' : Record)
@@ -488,20 +486,14 @@ lowers m e safe w = by_core e.core e.kind w.core w.can w.winds_up
     by_core zero kind small can w =
         by_two
         (λ m. Safe m → Allows m 0 kind → IsWindingUp m 0 kind
-            → suc (far_of (changed m 0 kind)) ≡ far_of m)
+        → suc (far_of (changed m 0 kind)) ≡ far_of m)
         (λ lock g g' p p' r r' running. zero_lowers kind) m safe.two_cores safe can w
     by_core (suc zero) kind small can w =
         by_two
         (λ m. Safe m → Allows m 1 kind → IsWindingUp m 1 kind
-            → suc (far_of (changed m 1 kind)) ≡ far_of m)
+        → suc (far_of (changed m 1 kind)) ≡ far_of m)
         (λ lock g g' p p' r r' running. one_lowers kind) m safe.two_cores safe can w
     by_core (suc (suc c)) kind small can w = absurd (omega arith)
-
--- an event that winds up begins nothing new
-begins_nothing : (m : Machine) (c : ℕ) (kind : Kind) → IsWindingUp m c kind → BeginsNothing kind
-begins_nothing m c Save w = tt
-begins_nothing m c Back w = tt
-begins_nothing m c kind w = w
 
 -- what holds behind events that wind up: the machine is safe, as many events nearer home, and each
 -- core's own registers are as before
@@ -523,8 +515,7 @@ brings_nearer m (e ∷ events) safe wind =
       safe = there.safe;
       nearer = let one = lowers m e safe w in let others = there.nearer in omega arith;
       keeps_own = λ d small. there.keeps_own d small
-          ∙ event_keeps_own m e d w.core small safe.two_cores w.can
-          ∙ nothing_set _ e.kind (own_of m d) (begins_nothing m e.core e.kind w.winds_up);
+          ∙ winding_keeps_own m e safe w d small;
     }
 
 -- all events that wind up lead home

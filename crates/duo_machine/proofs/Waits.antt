@@ -13,20 +13,19 @@ use Rattle.duo_machine.specs.declared.events.Kind.TheVariants.{Start, Rest, Take
 use Rattle.duo_machine.specs.declared.events.Event.{Event}
 use Rattle.duo_machine.specs.Machine.{other, gate_of, phase_of, KeepsAway, let_go}
 use Rattle.duo_machine.specs.Safe.{SafeAt, Safe}
-use Rattle.duo_machine.specs.Table.{Allows, changed, CanHappen, after, HasSaved, HasNoneSaved}
-use Rattle.duo_machine.specs.WaysOut.{BeginsNothing, IsWayOut, OtherBrings, HasToPark, WaitsEnd}
+use Rattle.duo_machine.specs.Table.{Allows, changed, after, HasSaved, HasNoneSaved}
+use Rattle.duo_machine.specs.WaysOut.{IsWindingUp, WindsUp, IsWayOut, OtherBrings, HasToPark, WaitsEnd}
 use Rattle.duo_machine.proofs.StepKeeps.{of_two, by_two}
 
 -- no event is a way out
 pub no_event : {most : ℕ} {m : Machine} → IsWayOut most m []
-no_event = record { can_run = tt; begin_nothing = tt; few = omega arith }
+no_event = record { wind_up = tt; few = omega arith }
 
 -- one event in front of a way out
-pub in_front : {most : ℕ} {m : Machine} {way : List Event} (e : Event) → BeginsNothing e.kind
-    → CanHappen m e → IsWayOut most (after m e) way → IsWayOut (suc most) m (e ∷ way)
-in_front e nothing can rest = record {
-  can_run = (can, rest.can_run);
-  begin_nothing = (nothing, rest.begin_nothing);
+pub in_front : {most : ℕ} {m : Machine} {way : List Event} (e : Event) → WindsUp m e
+    → IsWayOut most (after m e) way → IsWayOut (suc most) m (e ∷ way)
+in_front e winds_up rest = record {
+  wind_up = (winds_up, rest.wind_up);
   few = let few = rest.few in omega arith;
 }
 
@@ -34,8 +33,7 @@ in_front e nothing can rest = record {
 pub at_most : {few most : ℕ} {m : Machine} {way : List Event} → few ≤ most → IsWayOut few m way
     → IsWayOut most m way
 at_most below out = record {
-  can_run = out.can_run;
-  begin_nothing = out.begin_nothing;
+  wind_up = out.wind_up;
   few = let few = out.few in omega arith;
 }
 
@@ -44,15 +42,17 @@ now : {most c : ℕ} {m : Machine} {P : Machine → Type 0} → P m → OtherBri
 now holds = record { way = []; of_the_other = tt; is_way_out = no_event; wanted = holds }
 
 -- one event of the other core in front of others
-next : {most c : ℕ} {m : Machine} {P : Machine → Type 0} (kind : Kind) → BeginsNothing kind
-    → Allows m (other c) kind → OtherBrings most (changed m (other c) kind) c P
-    → OtherBrings (suc most) m c P
-next {c = c} kind nothing can brings =
+next : {most c : ℕ} {m : Machine} {P : Machine → Type 0} (kind : Kind)
+    → IsWindingUp m (other c) kind → Allows m (other c) kind
+    → OtherBrings most (changed m (other c) kind) c P → OtherBrings (suc most) m c P
+next {c = c} kind winds_up can brings =
     let e : Event = record { core = other c; kind = kind } in
     record {
       way = e ∷ brings.way;
       of_the_other = (refl, brings.of_the_other);
-      is_way_out = in_front e nothing can brings.is_way_out;
+      is_way_out =
+          in_front e (record { core = omega arith; can = can; winds_up = winds_up })
+          brings.is_way_out;
       wanted = brings.wanted;
     }
 
@@ -81,15 +81,13 @@ ended quiet away (inr idle) at_once later =
 -- an owner gives the lock back, by Give, or by Back and Give where something is saved
 given : {c : ℕ} {m : Machine} {P : Machine → Type 0}
     → phase_of m (other c) ≡ Owning → phase_of (changed m (other c) Back) (other c) ≡ Owning
-    → m.lock ≡ other c + 1
+    → gate_of m (other c) ≢ Asked → m.lock ≡ other c + 1
     → HasSaved m (other c) ⊎ HasNoneSaved m (other c)
-    → HasNoneSaved (changed m (other c) Back) (other c)
-    → P (changed m (other c) Give)
-    → P (changed (changed m (other c) Back) (other c) Give)
-    → OtherBrings 2 m c P
-given owns still lock (inl saved) none at_once later =
-    next Back tt (inr owns, saved) (next Give tt (still, none, lock) (now later))
-given owns still lock (inr none) after at_once later =
+    → HasNoneSaved (changed m (other c) Back) (other c) → P (changed m (other c) Give)
+    → P (changed (changed m (other c) Back) (other c) Give) → OtherBrings 2 m c P
+given owns still calm lock (inl saved) none at_once later =
+    next Back calm (inr owns, saved) (next Give tt (still, none, lock) (now later))
+given owns still calm lock (inr none) after at_once later =
     more (omega arith) (next {most = 0} Give tt (owns, none, lock) (now at_once))
 
 -- something is saved, or nothing is
@@ -129,6 +127,10 @@ module _ {c o lock : ℕ} {gate gate' : Gate} {phase phase' : Phase}
     gate_beside_owner : phase ≡ Owning → (gate' ≡ AtRest) ⊎ (gate' ≡ Run) ⊎ (gate' ≡ Freed)
     gate_beside_owner owns = grind arith
 
+    -- a core that has the lock is not asked to park
+    pub inside_unasked : (phase' ≡ Owning) ⊎ (phase' ≡ Asking) → gate' ≢ Asked
+    inside_unasked inside = λ is. absurd (grind arith)
+
     -- where the other core asks, it has saved its registers and runs no step
     pub asking_is_saved : phase' ≡ Asking → IsSome registers'.saved × (running ≢ Some o)
     asking_is_saved asks = (grind arith, λ is. absurd (grind arith))
@@ -162,12 +164,12 @@ zero_freed asks idle = next See tt (asks, refl) (next End tt (refl, idle, inl re
 
 -- and gives the lock back, so that core 0 may leave its gate and take the lock
 zero_lock : {lock : ℕ} {gate' : Gate} {phase' : Phase} {registers registers' : Record}
-    {running : Option ℕ} → phase' ≡ Asking → running ≢ Some 1 → IsSome registers'.saved → lock ≡ 2
+    {running : Option ℕ} → phase' ≡ Asking → running ≢ Some 1 → IsSome registers'.saved → gate' ≢ Asked → lock ≡ 2
     → OtherBrings 4 (of_two lock AtParked gate' Parked phase' registers registers' running) 0
     (λ there. Allows there 0 Leave × Allows (changed there 0 Leave) 0 Take)
-zero_lock asks idle saved lock =
+zero_lock asks idle saved calm lock =
     next See tt (asks, refl) (next End tt (refl, idle, inl refl)
-    (next Back tt (inr refl, saved) (next Give tt (refl, refl, lock)
+    (next Back calm (inr refl, saved) (next Give tt (refl, refl, lock)
     (now ((refl, refl), (refl, refl))))))
 
 -- core 0 is asked to park
@@ -183,9 +185,14 @@ zero_asked lock gate gate' phase phase' registers' running regs None s asked =
       other_waits = λ kind.
           asking_waits (of_two lock gate gate' phase phase' (record { regs = regs; saved = None }) registers' running) 1
           kind asks asked;
-      parks = ((inl runs, refl), ((runs, refl, asked), tt));
+      parks =
+          in_front (record { core = 0; kind = Save })
+          (record { core = omega arith; can = (inl runs, refl); winds_up = asked })
+          (in_front (record { core = 0; kind = Park })
+          (record { core = omega arith; can = (runs, refl, asked); winds_up = tt }) no_event);
       freed = zero_freed asks theirs.1;
-      lock = zero_lock asks theirs.1 theirs.0 (s.one_safe.lock_fits.owner.1 (inr (inl asks)));
+      lock = zero_lock asks theirs.1 theirs.0
+          (inside_unasked refl s.zero_safe s.one_safe (inr asks)) (s.one_safe.lock_fits.owner.1 (inr (inl asks)));
     }
 zero_asked lock gate gate' phase phase' registers' running regs (Some own) s asked =
     let asks = s.zero_safe.gate_has_reason.asked asked in
@@ -195,9 +202,12 @@ zero_asked lock gate gate' phase phase' registers' running regs (Some own) s ask
       other_waits = λ kind.
           asking_waits (of_two lock gate gate' phase phase' (record { regs = regs; saved = (Some own) }) registers' running)
           1 kind asks asked;
-      parks = ((runs, refl, asked), tt);
+      parks =
+          in_front (record { core = 0; kind = Park })
+          (record { core = omega arith; can = (runs, refl, asked); winds_up = tt }) no_event;
       freed = zero_freed asks theirs.1;
-      lock = zero_lock asks theirs.1 theirs.0 (s.one_safe.lock_fits.owner.1 (inr (inl asks)));
+      lock = zero_lock asks theirs.1 theirs.0
+          (inside_unasked refl s.zero_safe s.one_safe (inr asks)) (s.one_safe.lock_fits.owner.1 (inr (inl asks)));
     }
 
 -- what core 0 waits for
@@ -230,7 +240,7 @@ zero_waits lock gate gate' phase phase' registers registers' running s = record 
           | inl saved ↦
               more (omega arith) (next {most = 0} Park tt (runs, saved, asked) (now (asks, refl)))
           | inr none ↦
-              next Save tt (inl runs, none) (next Park tt (runs, refl, asked) (now (asks, refl)))
+              next Save asked (inl runs, none) (next Park tt (runs, refl, asked) (now (asks, refl)))
         ]
     | inr parked ↦ now (asks, parked)
   ];
@@ -245,7 +255,8 @@ zero_waits lock gate gate' phase phase' registers registers' running s = record 
   lock = λ runs calm. elim (free_or_owned refl s.zero_safe s.one_safe runs calm) [
     | inl free ↦ now (runs, free)
     | inr owned ↦
-        given owned.1 owned.1 owned.0 (saved_or_none registers'.saved) refl (runs, refl) (runs, refl)
+        given owned.1 owned.1 (inside_unasked refl s.zero_safe s.one_safe (inl owned.1)) owned.0
+        (saved_or_none registers'.saved) refl (runs, refl) (runs, refl)
   ];
   asked = zero_asked lock gate gate' phase phase' registers' running registers.regs registers.saved s;
 }
@@ -259,12 +270,12 @@ one_freed asks idle = next See tt (asks, refl) (next End tt (refl, idle, inl ref
 
 -- and gives the lock back, so that core 1 may leave its gate and take the lock
 one_lock : {lock : ℕ} {gate : Gate} {phase : Phase} {registers registers' : Record}
-    {running : Option ℕ} → phase ≡ Asking → running ≢ Some 0 → IsSome registers.saved → lock ≡ 1
+    {running : Option ℕ} → phase ≡ Asking → running ≢ Some 0 → IsSome registers.saved → gate ≢ Asked → lock ≡ 1
     → OtherBrings 4 (of_two lock gate AtParked phase Parked registers registers' running) 1
     (λ there. Allows there 1 Leave × Allows (changed there 1 Leave) 1 Take)
-one_lock asks idle saved lock =
+one_lock asks idle saved calm lock =
     next See tt (asks, refl) (next End tt (refl, idle, inl refl)
-    (next Back tt (inr refl, saved) (next Give tt (refl, refl, lock)
+    (next Back calm (inr refl, saved) (next Give tt (refl, refl, lock)
     (now ((refl, refl), (refl, refl))))))
 
 -- core 1 is asked to park
@@ -280,9 +291,14 @@ one_asked lock gate gate' phase phase' registers running regs None s asked =
       other_waits = λ kind.
           asking_waits (of_two lock gate gate' phase phase' registers (record { regs = regs; saved = None }) running) 0
           kind asks asked;
-      parks = ((inl runs, refl), ((runs, refl, asked), tt));
+      parks =
+          in_front (record { core = 1; kind = Save })
+          (record { core = omega arith; can = (inl runs, refl); winds_up = asked })
+          (in_front (record { core = 1; kind = Park })
+          (record { core = omega arith; can = (runs, refl, asked); winds_up = tt }) no_event);
       freed = one_freed asks theirs.1;
-      lock = one_lock asks theirs.1 theirs.0 (s.zero_safe.lock_fits.owner.1 (inr (inl asks)));
+      lock = one_lock asks theirs.1 theirs.0
+          (inside_unasked refl s.one_safe s.zero_safe (inr asks)) (s.zero_safe.lock_fits.owner.1 (inr (inl asks)));
     }
 one_asked lock gate gate' phase phase' registers running regs (Some own) s asked =
     let asks = s.one_safe.gate_has_reason.asked asked in
@@ -292,9 +308,12 @@ one_asked lock gate gate' phase phase' registers running regs (Some own) s asked
       other_waits = λ kind.
           asking_waits (of_two lock gate gate' phase phase' registers (record { regs = regs; saved = (Some own) }) running)
           0 kind asks asked;
-      parks = ((runs, refl, asked), tt);
+      parks =
+          in_front (record { core = 1; kind = Park })
+          (record { core = omega arith; can = (runs, refl, asked); winds_up = tt }) no_event;
       freed = one_freed asks theirs.1;
-      lock = one_lock asks theirs.1 theirs.0 (s.zero_safe.lock_fits.owner.1 (inr (inl asks)));
+      lock = one_lock asks theirs.1 theirs.0
+          (inside_unasked refl s.one_safe s.zero_safe (inr asks)) (s.zero_safe.lock_fits.owner.1 (inr (inl asks)));
     }
 
 -- what core 1 waits for
@@ -327,7 +346,7 @@ one_waits lock gate gate' phase phase' registers registers' running s = record {
           | inl saved ↦
               more (omega arith) (next {most = 0} Park tt (runs, saved, asked) (now (asks, refl)))
           | inr none ↦
-              next Save tt (inl runs, none) (next Park tt (runs, refl, asked) (now (asks, refl)))
+              next Save asked (inl runs, none) (next Park tt (runs, refl, asked) (now (asks, refl)))
         ]
     | inr parked ↦ now (asks, parked)
   ];
@@ -342,7 +361,8 @@ one_waits lock gate gate' phase phase' registers registers' running s = record {
   lock = λ runs calm. elim (free_or_owned refl s.one_safe s.zero_safe runs calm) [
     | inl free ↦ now (runs, free)
     | inr owned ↦
-        given owned.1 owned.1 owned.0 (saved_or_none registers.saved) refl (runs, refl) (runs, refl)
+        given owned.1 owned.1 (inside_unasked refl s.one_safe s.zero_safe (inl owned.1)) owned.0
+        (saved_or_none registers.saved) refl (runs, refl) (runs, refl)
   ];
   asked = one_asked lock gate gate' phase phase' registers running registers'.regs registers'.saved s;
 }

@@ -15,9 +15,9 @@ use Rattle.duo_machine.specs.declared.events.Kind.TheVariants.{Start, Give, Save
 use Rattle.duo_machine.specs.declared.events.Event.{Event}
 use Rattle.duo_machine.specs.Machine.{own_of}
 use Rattle.duo_machine.specs.Safe.{SafeAt, Safe}
-use Rattle.duo_machine.specs.Table.{Allows, changed}
+use Rattle.duo_machine.specs.Table.{Allows, changed, after}
 use Rattle.duo_machine.specs.Runs.{set_by}
-use Rattle.duo_machine.specs.WaysOut.{BeginsNothing, IsHome, HasWayHome}
+use Rattle.duo_machine.specs.WaysOut.{BeginsNothing, IsWindingUp, WindsUp, IsHome, HasWayHome}
 use Rattle.duo_machine.proofs.StepKeeps.{of_two, by_two, event_keeps_safe}
 use Rattle.duo_machine.proofs.RunLemmas.{none_saved, event_keeps_own}
 use Rattle.duo_machine.proofs.Waits.{no_event, in_front, at_most, saved_or_none, runs_or_not, asking_is_saved}
@@ -29,28 +29,38 @@ nothing_set false kind own nothing = refl
 nothing_set true (Set wanted) own nothing = absurd nothing
 nothing_set true kind own nothing = refl
 
--- an event that begins nothing new, in front of a way home
-go : {most : ℕ} (m : Machine) (c : ℕ) (kind : Kind) → c < 2 → BeginsNothing kind → Safe m
+-- an event that winds up begins nothing new
+pub begins_nothing : (m : Machine) (c : ℕ) (kind : Kind) → IsWindingUp m c kind → BeginsNothing kind
+begins_nothing m c Save w = tt
+begins_nothing m c Back w = tt
+begins_nothing m c kind w = w
+
+-- so it leaves each core's own registers as they were
+pub winding_keeps_own : (m : Machine) (e : Event) → Safe m → WindsUp m e → (d : ℕ) → d < 2
+    → own_of (after m e) d ≡ own_of m d
+winding_keeps_own m e safe w d small =
+    event_keeps_own m e d w.core small safe.two_cores w.can
+    ∙ nothing_set _ e.kind (own_of m d) (begins_nothing m e.core e.kind w.winds_up)
+
+-- an event that winds up, in front of a way home
+go : {most : ℕ} (m : Machine) (c : ℕ) (kind : Kind) → c < 2 → IsWindingUp m c kind → Safe m
     → Allows m c kind → (Safe (changed m c kind) → HasWayHome most (changed m c kind))
     → HasWayHome (suc most) m
-go m c kind core nothing safe can rest =
+go m c kind core winds_up safe can rest =
     let e : Event = record { core = c; kind = kind } in
+    let w : WindsUp m e = record { core = core; can = can; winds_up = winds_up } in
     let home = rest (event_keeps_safe m e core safe can) in
-    let same : (d : ℕ) → d < 2 → own_of (changed m c kind) d ≡ own_of m d =
-    λ d small. event_keeps_own m e d core small safe.two_cores can
-    ∙ nothing_set _ kind (own_of m d) nothing in
     record {
       way = e ∷ home.way;
-      of_two_cores = (core, home.of_two_cores);
-      is_way_out = in_front e nothing can home.is_way_out;
+      is_way_out = in_front e w home.is_way_out;
       home = record {
         cores = λ d small. let there = home.home.cores d small in record {
           phase = there.phase;
           gate = there.gate;
           none_saved = there.none_saved;
-          in_force = there.in_force ∙ same d small;
+          in_force = there.in_force ∙ winding_keeps_own m e safe w d small;
         };
-        keeps_own = λ d small. home.home.keeps_own d small ∙ same d small;
+        keeps_own = λ d small. home.home.keeps_own d small ∙ winding_keeps_own m e safe w d small;
         free = home.home.free;
         idle = home.home.idle;
       };
@@ -60,7 +70,6 @@ go m c kind core nothing safe can rest =
 more : {few most : ℕ} {m : Machine} → few ≤ most → HasWayHome few m → HasWayHome most m
 more below home = record {
   way = home.way;
-  of_two_cores = home.of_two_cores;
   is_way_out = at_most below home.is_way_out;
   home = home.home;
 }
@@ -153,7 +162,6 @@ arrived : {lock : ℕ} {gate gate' : Gate} {phase phase' : Phase} {registers reg
     → HasWayHome 0 (of_two lock gate gate' phase phase' registers registers' running)
 arrived safe home home' = record {
   way = [];
-  of_two_cores = tt;
   is_way_out = no_event;
   home = at_home safe home home';
 }
@@ -172,17 +180,17 @@ zero_goes {most = most} {lock = lock} {gate = gate} {gate' = gate'} {phase = pha
     elim goes [
       | inl rests ↦
           go _ 0 Start (omega arith) tt safe (rests.0, rests.1)
-          (λ safe. go _ 0 Back (omega arith) tt safe (inl refl, rests.2)
+          (λ safe. go _ 0 Back (omega arith) (λ is. absurd (cc)) safe (inl refl, rests.2)
           (λ safe. rest lock Run Running (restored registers) safe
           (record { phase_is = refl; gate_is = refl; none = refl })))
       | inr (inl parked) ↦
           go _ 0 Leave (omega arith) tt safe (parked.0, parked.1)
-          (λ safe. go _ 0 Back (omega arith) tt safe (inl refl, parked.2)
+          (λ safe. go _ 0 Back (omega arith) (λ is. absurd (cc)) safe (inl refl, parked.2)
           (λ safe. rest lock Run Running (restored registers) safe
           (record { phase_is = refl; gate_is = refl; none = refl })))
       | inr (inr (inl runs)) ↦ elim (saved_or_none registers.saved) [
         | inl saved ↦
-            more {few = suc most} (omega arith) (go _ 0 Back (omega arith) tt safe (inl runs.0, saved)
+            more {few = suc most} (omega arith) (go _ 0 Back (omega arith) (λ is. absurd (cc)) safe (inl runs.0, saved)
             (λ safe. rest lock gate phase (restored registers) safe
             (record { phase_is = runs.0; gate_is = runs.1; none = refl })))
         | inr none ↦
@@ -191,7 +199,7 @@ zero_goes {most = most} {lock = lock} {gate = gate} {gate' = gate'} {phase = pha
       ]
       | inr (inr (inr owns)) ↦ elim (saved_or_none registers.saved) [
         | inl saved ↦
-            go _ 0 Back (omega arith) tt safe (inr owns.0, saved)
+            go _ 0 Back (omega arith) (λ is. absurd (cc)) safe (inr owns.0, saved)
             (λ safe. go _ 0 Give (omega arith) tt safe (owns.0, refl, owns.2)
             (λ safe. rest 0 gate Running (restored registers) safe
             (record { phase_is = refl; gate_is = owns.1; none = refl })))
@@ -217,17 +225,17 @@ one_goes {most = most} {lock = lock} {gate = gate} {gate' = gate'} {phase = phas
     elim goes [
       | inl rests ↦
           go _ 1 Start (omega arith) tt safe (rests.0, rests.1)
-          (λ safe. go _ 1 Back (omega arith) tt safe (inl refl, rests.2)
+          (λ safe. go _ 1 Back (omega arith) (λ is. absurd (cc)) safe (inl refl, rests.2)
           (λ safe. rest lock Run Running (restored registers') safe
           (record { phase_is = refl; gate_is = refl; none = refl })))
       | inr (inl parked) ↦
           go _ 1 Leave (omega arith) tt safe (parked.0, parked.1)
-          (λ safe. go _ 1 Back (omega arith) tt safe (inl refl, parked.2)
+          (λ safe. go _ 1 Back (omega arith) (λ is. absurd (cc)) safe (inl refl, parked.2)
           (λ safe. rest lock Run Running (restored registers') safe
           (record { phase_is = refl; gate_is = refl; none = refl })))
       | inr (inr (inl runs)) ↦ elim (saved_or_none registers'.saved) [
         | inl saved ↦
-            more {few = suc most} (omega arith) (go _ 1 Back (omega arith) tt safe (inl runs.0, saved)
+            more {few = suc most} (omega arith) (go _ 1 Back (omega arith) (λ is. absurd (cc)) safe (inl runs.0, saved)
             (λ safe. rest lock gate' phase' (restored registers') safe
             (record { phase_is = runs.0; gate_is = runs.1; none = refl })))
         | inr none ↦
@@ -236,7 +244,7 @@ one_goes {most = most} {lock = lock} {gate = gate} {gate' = gate'} {phase = phas
       ]
       | inr (inr (inr owns)) ↦ elim (saved_or_none registers'.saved) [
         | inl saved ↦
-            go _ 1 Back (omega arith) tt safe (inr owns.0, saved)
+            go _ 1 Back (omega arith) (λ is. absurd (cc)) safe (inr owns.0, saved)
             (λ safe. go _ 1 Give (omega arith) tt safe (owns.0, refl, owns.2)
             (λ safe. rest 0 gate' Running (restored registers') safe
             (record { phase_is = refl; gate_is = owns.1; none = refl })))
@@ -306,7 +314,7 @@ zero_asks {registers = registers} {registers' = registers'} safe asks =
                 more {few = 7} (omega arith) (go _ 1 Park (omega arith) tt safe (runs, saved, asked)
                 (λ safe. zero_sees safe asks refl))
             | inr none ↦
-                go _ 1 Save (omega arith) tt safe (inl runs, none)
+                go _ 1 Save (omega arith) asked safe (inl runs, none)
                 (λ safe. go _ 1 Park (omega arith) tt safe (runs, refl, asked)
                 (λ safe. zero_sees safe asks refl))
           ]
@@ -354,7 +362,7 @@ one_asks {registers = registers} {registers' = registers'} safe asks =
                 more {few = 7} (omega arith) (go _ 0 Park (omega arith) tt safe (runs, saved, asked)
                 (λ safe. one_sees safe asks refl))
             | inr none ↦
-                go _ 0 Save (omega arith) tt safe (inl runs, none)
+                go _ 0 Save (omega arith) asked safe (inl runs, none)
                 (λ safe. go _ 0 Park (omega arith) tt safe (runs, refl, asked)
                 (λ safe. one_sees safe asks refl))
           ]

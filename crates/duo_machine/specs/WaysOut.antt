@@ -9,7 +9,7 @@ use Rattle.duo_machine.specs.declared.events.Kind.TheVariants.{Start, Rest, Take
 use Rattle.duo_machine.specs.declared.events.Event.{Event}
 use Rattle.duo_machine.specs.Machine.{other, gate_of, phase_of, record_of, own_of}
 use Rattle.duo_machine.specs.Table.{Allows, changed, CanHappen, after, HasSaved, HasNoneSaved}
-use Rattle.duo_machine.specs.Runs.{AreOfTwoCores, CanRun, after_all}
+use Rattle.duo_machine.specs.Runs.{after_all}
 use Rattle.duo_machine.specs.Safe.{Safe}
 
 -- an event of this kind begins nothing new: it takes no lock, holds or asks nobody, begins no step,
@@ -24,10 +24,23 @@ BeginsNothing (Set registers) = ⊥
 BeginsNothing (Fetch space) = ⊥
 BeginsNothing _ = Unit {0}
 
--- no event begins anything new
-abbrev pub BeginNothing : List Event → Type 0
-BeginNothing [] = Unit {0}
-BeginNothing (e ∷ events) = BeginsNothing e.kind × BeginNothing events
+-- what an event that winds up is: it saves only where its core is asked to park, puts registers back
+-- only where it is not, and else begins nothing new
+abbrev pub IsWindingUp : Machine → ℕ → Kind → Type 0
+IsWindingUp m c Save = gate_of m c ≡ Asked
+IsWindingUp m c Back = gate_of m c ≢ Asked
+IsWindingUp m c kind = BeginsNothing kind
+
+-- the event is of core 0 or core 1, may happen next, and winds up
+pub record WindsUp (m : Machine) (e : Event) : Type 0 where
+  pub core : e.core < 2
+  pub can : CanHappen m e
+  pub winds_up : IsWindingUp m e.core e.kind
+
+-- each event winds up when its turn comes
+abbrev pub WindUp : Machine → List Event → Type 0
+WindUp m [] = Unit {0}
+WindUp m (e ∷ events) = WindsUp m e × WindUp (after m e) events
 
 -- each event is of this core
 abbrev pub AreOf : ℕ → List Event → Type 0
@@ -36,10 +49,8 @@ AreOf c (e ∷ events) = (e.core ≡ c) × AreOf c events
 
 -- the events are a way out of this machine, of at most so many events
 pub record IsWayOut (most : ℕ) (m : Machine) (events : List Event) : Type 0 where
-  -- each event may happen when its turn comes
-  pub can_run : CanRun m events
-  -- none begins anything new
-  pub begin_nothing : BeginNothing events
+  -- each event may happen when its turn comes, and winds up
+  pub wind_up : WindUp m events
   -- there are no more of them than this
   pub few : length events ≤ most
 
@@ -51,41 +62,22 @@ pub record IsCoreHome (m : Machine) (c : ℕ) (registers : Regs) : Type 0 where
   pub none_saved : HasNoneSaved m c
   pub in_force : (record_of m c).regs ≡ registers
 
--- the machine that is reached is home, whichever registers were a core's own before
+-- a machine that is reached from another one is home
 pub record IsHome (before there : Machine) : Type 0 where
-  -- both cores are home, and the registers in force are those that were their own
+  -- both cores are home, and the registers in force are those that were their own before
   pub cores : (c : ℕ) → c < 2 → IsCoreHome there c (own_of before c)
-  -- these still are their own
+  -- these are still their own
   pub keeps_own : (c : ℕ) → c < 2 → own_of there c ≡ own_of before c
   -- the lock is free
   pub free : there.lock ≡ 0
   -- no step runs
   pub idle : there.running ≡ None
 
--- there is a way home, of at most so many events of both cores
+-- there is a way home, of at most so many events
 pub record HasWayHome (most : ℕ) (m : Machine) : Type 0 where
   pub way : List Event
-  pub of_two_cores : AreOfTwoCores way
   pub is_way_out : IsWayOut most m way
   pub home : IsHome m (after_all m way)
-
--- what an event that winds up is: it saves only where its core is asked to park, puts registers back
--- only where it is not, and else begins nothing new
-abbrev pub IsWindingUp : Machine → ℕ → Kind → Type 0
-IsWindingUp m c Save = gate_of m c ≡ Asked
-IsWindingUp m c Back = gate_of m c ≢ Asked
-IsWindingUp m c kind = BeginsNothing kind
-
--- the event may happen next, and winds up
-pub record WindsUp (m : Machine) (e : Event) : Type 0 where
-  pub core : e.core < 2
-  pub can : CanHappen m e
-  pub winds_up : IsWindingUp m e.core e.kind
-
--- each event winds up when its turn comes
-abbrev pub WindUp : Machine → List Event → Type 0
-WindUp m [] = Unit {0}
-WindUp m (e ∷ events) = WindsUp m e × WindUp (after m e) events
 
 -- events that wind up lead home, whichever they are: there are at most eight, and both cores are
 -- home where no event is left that winds up
@@ -93,7 +85,7 @@ pub record LeadHome (m : Machine) (events : List Event) : Type 0 where
   pub few : length events ≤ 8
   pub home : ((e : Event) → ¬ WindsUp (after_all m events) e) → IsHome m (after_all m events)
 
--- the other core alone can bring this about, by at most so many events that begin nothing new
+-- the other core alone can bring this about, by at most so many events that wind up
 pub record OtherBrings (most : ℕ) (m : Machine) (c : ℕ) (Wanted : Machine → Type 0) : Type 0 where
   pub way : List Event
   pub of_the_other : AreOf (other c) way
@@ -114,8 +106,8 @@ once_parked m c = after_all m (parking c (record_of m c).saved)
 pub record HasToPark (m : Machine) (c : ℕ) : Type 0 where
   -- until the core has parked the other one waits too: no event of it may happen
   pub other_waits : (kind : Kind) → ¬ Allows m (other c) kind
-  -- the core can park by its own events alone
-  pub parks : CanRun m (parking c (record_of m c).saved)
+  -- the core can park, by its own events alone
+  pub parks : IsWayOut 2 m (parking c (record_of m c).saved)
   -- then the other core comes to free the core's gate
   pub freed : OtherBrings 2 (once_parked m c) c (λ there. Allows there c Leave)
   -- and by two more events to give the lock back, so that the core may leave its gate and take it
@@ -142,7 +134,7 @@ pub record WaitsEnd (m : Machine) (c : ℕ) : Type 0 where
   pub lock :
       phase_of m c ≡ Running → gate_of m c ≢ Asked →
       OtherBrings 2 m c (λ there. Allows there c Take)
-  -- a core that is asked to park has to park first, also where it waits for the lock
+  -- a core that is asked to park has to do so first, also where it waits for the lock
   pub asked : gate_of m c ≡ Asked → HasToPark m c
 
 -- from every safe machine at most eight events lead home
