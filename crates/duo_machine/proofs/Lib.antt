@@ -1,3 +1,6 @@
 pub mod EachEvent
 pub mod StepKeeps
 pub mod RunLemmas
+pub mod Waits
+pub mod WayHome
+pub mod EachWay

@@ -9,4 +9,7 @@ mod tests;
 
 pub use events::{Event, Kind};
 pub use machine::{Gate, Machine, Phase, first};
-pub use moves::{every_run_is_safe, run, step};
+pub use moves::{
+    every_machine_has_a_way_home, every_run_is_safe, every_wait_ends, every_way_leads_home, run,
+    step,
+};

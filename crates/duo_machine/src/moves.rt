@@ -4,6 +4,7 @@ ghost use Rattle.std.specs.Int.{IsBitSet};
 ghost use Rattle.duo_machine.specs.Table.{CanHappen, after, bit_of};
 ghost use Rattle.duo_machine.specs.Runs.{AreOfTwoCores, CanRun, after_all, IsSafeRun};
 ghost use Rattle.duo_machine.specs.Safe.{Safe};
+ghost use Rattle.duo_machine.specs.WaysOut.{EachMachineHasAWayHome, EachWayLeadsHome, EachWaitEnds};
 ghost use Rattle.duo_machine.specs.declared.machine.Machine.{Machine};
 ghost use Rattle.duo_machine.specs.declared.events.Event.{Event};
 
@@ -43,6 +44,24 @@ pub fn run(m: &Machine, events: &[Event]) -> Option<Machine>
 pub fn every_run_is_safe()
     ensures { (m : Machine) (events : List Event) →
         Safe m → AreOfTwoCores events → CanRun m events → IsSafeRun m events }
+{}
+
+/// No safe machine is stuck: by at most eight events, none of which begins anything new, both cores
+/// come to run with nothing saved, each with its own registers in force, and the lock is free.
+pub fn every_machine_has_a_way_home()
+    ensures { EachMachineHasAWayHome }
+{}
+
+/// No order leads astray: of events that wind up, in whatever order both cores make them, at most
+/// eight can come, and where none is left both cores are home.
+pub fn every_way_leads_home()
+    ensures { EachWayLeadsHome }
+{}
+
+/// Each wait of a core ends by at most two events of the other core alone, but where the core is
+/// asked to park: there it has to park first.
+pub fn every_wait_ends()
+    ensures { EachWaitEnds }
 {}
 
 /// Whether the guard of the event holds.
