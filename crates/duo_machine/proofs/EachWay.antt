@@ -33,6 +33,7 @@ from_running Asked (Some own) = 3
 from_running gate None = 0
 from_running gate (Some own) = 1
 
+-- at most four
 running_small : (gate : Gate) (saved : Option Regs) → from_running gate saved ≤ 4
 unfolding from_running
 running_small Asked None = omega arith
@@ -55,16 +56,19 @@ far_of m =
     far 0 (gate_of m 0) (phase_of m 0) (record_of m 0).saved m.running
     + far 1 (gate_of m 1) (phase_of m 1) (record_of m 1).saved m.running
 
+-- 1, as the first holds
 is_one : {A : Type 0} (t : A ⊎ (A → ⊥)) → A → one_of t ≡ 1
 unfolding one_of
 is_one (inl x) held = refl
 is_one (inr fails) held = absurd (fails held)
 
+-- 0, as the first fails
 is_none : {A : Type 0} (t : A ⊎ (A → ⊥)) → (A → ⊥) → one_of t ≡ 0
 unfolding one_of
 is_none (inl x) fails = absurd (fails x)
 is_none (inr y) fails = refl
 
+-- at most 1
 at_most_one : {A B : Type 0} (t : A ⊎ B) → one_of t ≤ 1
 unfolding one_of
 at_most_one (inl x) = omega arith
@@ -91,6 +95,7 @@ far_of_small m =
     let one_far = far_small 1 (gate_of m 1) (phase_of m 1) (record_of m 1).saved m.running in
     omega arith
 
+-- nothing is saved: no event for that
 none_is : (saved : Option Regs) → IsNone saved → one_of (saved_or_none saved) ≡ 0
 unfolding one_of
 none_is saved none = by (saved_or_none saved)
@@ -99,6 +104,7 @@ none_is saved none = by (saved_or_none saved)
     by (inl some) = absurd (cc)
     by (inr held) = refl
 
+-- something is saved: one event for that
 some_is : (saved : Option Regs) → IsSome saved → one_of (saved_or_none saved) ≡ 1
 unfolding one_of
 some_is saved some = by (saved_or_none saved)
@@ -107,21 +113,25 @@ some_is saved some = by (saved_or_none saved)
     by (inl held) = refl
     by (inr none) = absurd (cc)
 
+-- a core that runs, is not asked and has nothing saved, is home
 from_run_by : (saved : Option Regs) → IsNone saved → from_running Run saved ≡ 0
 unfolding from_running
 from_run_by None held = refl
 from_run_by (Some own) held = absurd (cc)
 
+-- one that has something saved puts it back
 from_masked_run_by : (saved : Option Regs) → IsSome saved → from_running Run saved ≡ 1
 unfolding from_running
 from_masked_run_by (Some own) held = refl
 from_masked_run_by None held = absurd (cc)
 
+-- one that is asked saves, parks, leaves and puts back
 from_asked_by : (saved : Option Regs) → IsNone saved → from_running Asked saved ≡ 4
 unfolding from_running
 from_asked_by None held = refl
 from_asked_by (Some own) held = absurd (cc)
 
+-- or parks, leaves and puts back
 from_masked_asked_by : (saved : Option Regs) → IsSome saved → from_running Asked saved ≡ 3
 unfolding from_running
 from_masked_asked_by (Some own) held = refl
@@ -134,24 +144,28 @@ record IsFar
   is : far c gate phase saved running ≡ n
 
 module _ {c : ℕ} {gate : Gate} {phase : Phase} {saved : Option Regs} {running : Option ℕ} where
+  -- a core that rests starts and puts back
   from_resting : phase ≡ Resting → IsFar c gate phase saved running 2
   unfolding far
   from_resting is = record {
     is = ap (λ p. far c gate p saved running) is;
   }
 
+  -- a parked core leaves and puts back
   from_parked : phase ≡ Parked → IsFar c gate phase saved running 2
   unfolding far
   from_parked is = record {
     is = ap (λ p. far c gate p saved running) is;
   }
 
+  -- a core that asks sees, ends, puts back and gives
   from_asking : phase ≡ Asking → IsFar c gate phase saved running 4
   unfolding far
   from_asking is = record {
     is = ap (λ p. far c gate p saved running) is;
   }
 
+  -- a quiet core whose step runs ends that first
   from_step : phase ≡ Quiet → running ≡ Some c → IsFar c gate phase saved running 4
   unfolding far
   from_step is runs = record {
@@ -159,6 +173,7 @@ module _ {c : ℕ} {gate : Gate} {phase : Phase} {saved : Option Regs} {running 
         ∙ ap (λ n. 3 + n) (is_one (runs_or_not c running) runs);
   }
 
+  -- a quiet core ends, puts back and gives
   from_quiet : phase ≡ Quiet → running ≢ Some c → IsFar c gate phase saved running 3
   unfolding far
   from_quiet is idle = record {
@@ -166,18 +181,21 @@ module _ {c : ℕ} {gate : Gate} {phase : Phase} {saved : Option Regs} {running 
         ∙ ap (λ n. 3 + n) (is_none (runs_or_not c running) idle);
   }
 
+  -- an owner gives
   from_owning : phase ≡ Owning → IsNone saved → IsFar c gate phase saved running 1
   unfolding far
   from_owning is none = record {
     is = ap (λ p. far c gate p saved running) is ∙ ap (λ n. 1 + n) (none_is saved none);
   }
 
+  -- a masked owner puts back first
   from_masked_owning : phase ≡ Owning → IsSome saved → IsFar c gate phase saved running 2
   unfolding far
   from_masked_owning is some = record {
     is = ap (λ p. far c gate p saved running) is ∙ ap (λ n. 1 + n) (some_is saved some);
   }
 
+  -- a core that runs with nothing saved is home
   from_run : phase ≡ Running → gate ≡ Run → IsNone saved → IsFar c gate phase saved running 0
   unfolding far
   from_run is at held = record {
@@ -185,6 +203,7 @@ module _ {c : ℕ} {gate : Gate} {phase : Phase} {saved : Option Regs} {running 
         ∙ from_run_by saved held;
   }
 
+  -- a masked one puts back
   from_masked_run : phase ≡ Running → gate ≡ Run → IsSome saved → IsFar c gate phase saved running 1
   unfolding far
   from_masked_run is at held = record {
@@ -192,6 +211,7 @@ module _ {c : ℕ} {gate : Gate} {phase : Phase} {saved : Option Regs} {running 
         ∙ from_masked_run_by saved held;
   }
 
+  -- one that is asked saves, parks, leaves and puts back
   from_asked : phase ≡ Running → gate ≡ Asked → IsNone saved → IsFar c gate phase saved running 4
   unfolding far
   from_asked is at held = record {
@@ -199,6 +219,7 @@ module _ {c : ℕ} {gate : Gate} {phase : Phase} {saved : Option Regs} {running 
         ∙ from_asked_by saved held;
   }
 
+  -- or parks, leaves and puts back
   from_masked_asked : phase ≡ Running → gate ≡ Asked → IsSome saved → IsFar c gate phase saved running 3
   unfolding far
   from_masked_asked is at held = record {
@@ -213,10 +234,11 @@ down : {c n : ℕ} {gate gate' : Gate} {phase phase' : Phase} {saved saved' : Op
     → suc (far c gate phase saved running) ≡ far c gate' phase' saved' running'
 down new old = ap suc new.is ∙ sym old.is
 
--- core 0 is one nearer, and core 1 as far as before; and the other way round
+-- core 0 is one nearer, and core 1 as far as before
 nearer : {a b a' b' : ℕ} → suc a ≡ a' → b ≡ b' → suc (a + b) ≡ a' + b'
 nearer mine theirs = omega arith
 
+-- core 1 is one nearer, and core 0 as far as before
 nearer_back : {a b a' b' : ℕ} → suc b ≡ b' → a ≡ a' → suc (a + b) ≡ a' + b'
 nearer_back mine theirs = omega arith
 
@@ -226,10 +248,11 @@ module _ {c o lock : ℕ} {gate gate' : Gate} {phase phase' : Phase}
     (mine : SafeAt c lock gate phase phase' registers running)
     (theirs : SafeAt o lock gate' phase' phase registers' running)
   where
-    -- the gate of an owner, and of a core that runs and is not asked to park
+    -- the gate of an owner
     owner_gate : phase ≡ Owning → gate ≡ Run
     owner_gate owns = grind arith
 
+    -- the gate of a core that runs and is not asked to park
     running_gate : phase ≡ Running → gate ≢ Asked → gate ≡ Run
     running_gate runs calm = grind arith
 
@@ -241,29 +264,24 @@ module _ {c o lock : ℕ} {gate gate' : Gate} {phase phase' : Phase}
     kept_away : phase ≡ Quiet → (phase' ≡ Parked) ⊎ (phase' ≡ Resting)
     kept_away quiet = grind arith
 
-parked_far : (c : ℕ) (gate : Gate) (phase : Phase) (saved : Option Regs) (running : Option ℕ)
-    → phase ≡ Parked → far c gate phase saved running ≡ 2
-unfolding far
-parked_far c gate phase saved running is = ap (λ p. far c gate p saved running) is
-
-resting_far : (c : ℕ) (gate : Gate) (phase : Phase) (saved : Option Regs) (running : Option ℕ)
-    → phase ≡ Resting → far c gate phase saved running ≡ 2
-unfolding far
-resting_far c gate phase saved running is = ap (λ p. far c gate p saved running) is
-
 -- a core that is parked or rests is as far from home whatever its gate says and whichever step runs
 as_far : (c : ℕ) (gate gate' : Gate) (phase : Phase) (saved : Option Regs)
     (running running' : Option ℕ) → (phase ≡ Parked) ⊎ (phase ≡ Resting)
     → far c gate phase saved running ≡ far c gate' phase saved running'
 as_far c gate gate' phase saved running running' (inl parked) =
-    parked_far c gate phase saved running parked ∙ sym (parked_far c gate' phase saved running' parked)
+    let here : IsFar c gate phase saved running 2 = from_parked parked in
+    let there : IsFar c gate' phase saved running' 2 = from_parked parked in
+    here.is ∙ sym there.is
 as_far c gate gate' phase saved running running' (inr rests) =
-    resting_far c gate phase saved running rests ∙ sym (resting_far c gate' phase saved running' rests)
+    let here : IsFar c gate phase saved running 2 = from_resting rests in
+    let there : IsFar c gate' phase saved running' 2 = from_resting rests in
+    here.is ∙ sym there.is
 
 -- no event is left that winds up
 abbrev IsStuck : Machine → Type 0
 IsStuck m = (e : Event) → ¬ WindsUp m e
 
+-- so no event that winds up may happen
 stops : {m : Machine} → IsStuck m → (c : ℕ) (kind : Kind) → c < 2 → Allows m c kind
     → IsWindingUp m c kind → ⊥
 stops stuck c kind core can winds_up =
@@ -473,6 +491,7 @@ stuck_of_two lock gate gate' phase phase' registers registers' running s stuck =
     at_home s (zero_arrived stuck (goes_home refl s.zero_safe s.one_safe calm calm'))
     (one_arrived stuck (goes_home refl s.one_safe s.zero_safe calm' calm))
 
+-- so it is of every safe machine
 stuck_is_home : (m : Machine) → Safe m → IsStuck m → IsHome m m
 stuck_is_home m safe stuck =
     by_two (λ m. Safe m → IsStuck m → IsHome m m) stuck_of_two m safe.two_cores safe stuck
@@ -502,6 +521,7 @@ record IsNearer (m : Machine) (events : List Event) : Type 0 where
   nearer : length events + far_of (after_all m events) ≡ far_of m
   keeps_own : (d : ℕ) → d < 2 → own_of (after_all m events) d ≡ own_of m d
 
+-- that holds of all events that wind up
 brings_nearer : (m : Machine) (events : List Event) → Safe m → WindUp m events → IsNearer m events
 brings_nearer m [] safe wind = record {
   safe = safe;
