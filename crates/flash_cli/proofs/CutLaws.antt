@@ -10,14 +10,12 @@ use Rattle.partition_table.specs.declared.app.App.{App}
 use Rattle.partition_table.specs.Layout.{Places, layout_in}
 use Rattle.otadata.specs.declared.next.NextEntry.{NextEntry}
 use Rattle.boot_select.specs.Boots.{entries_in}
-use Rattle.boot_select.specs.Target.{target_of}
 use Rattle.rollback.specs.declared.rewrite.Rewrite.{Rewrite}
 use Rattle.rollback.specs.Boots.{boots_in}
 use Rattle.rollback.specs.Rewrite.{restated}
 use Rattle.image_verify.specs.Held.{held}
 use Rattle.boot_run.specs.declared.aims.Aim.{Aim}
 use Rattle.boot_run.specs.declared.booted.Booted.{Booted}
-use Rattle.boot_run.specs.Aim.{aim_at}
 use Rattle.boot_run.specs.Rewriting.{rewrite}
 use Rattle.boot_run.specs.Verified.{Starts}
 use Rattle.update_steps.specs.Driver.{driver_steps, next_rewrite, steps_to}
@@ -51,6 +49,7 @@ use Rattle.flash_cli.proofs.CutLemmas.{trial_cut}
 use Rattle.flash_cli.proofs.EndLemmas.{done_is, second_true}
 use Rattle.flash_cli.proofs.OpenedLemmas.{opened}
 use Rattle.flash_cli.proofs.SweepCountLemmas.{IsCountable, cut_ends, same_end, started, sweep_counts}
+use Rattle.flash_cli.proofs.AimLaws.{next_same, slot_same}
 use Rattle.flash_cli.proofs.UpdateLaws.{cut_reached}
 
 -- the session of an update that was made whole was made whole
@@ -192,11 +191,12 @@ no_failure cut fail k (inl none) is = absurd cc
 no_failure cut fail k (inr none) is = none
 
 pub cut_by_files : ShowsNone → CutUpdatesAreByFiles
-cut_by_files shown flash image text options o t k sound is silent status =
+cut_by_files shown flash image text options o t k is silent status =
+    let sound = is.sound in
     let of = opened flash image text o silent.given in
     let may = quiet flash image text o is.aim silent in
     let dev = is.device in
-    let chosen : options.cut ≡ Some k = ((cut_reached options o t k sound is).0 status).0 in
+    let chosen : options.cut ≡ Some k = ((cut_reached options o t k is).0 status).0 in
     let back : o.flash ≡ dev.inner.bytes = sym is.fresh.bytes in
     let table : HasTable o.rows o.layout dev.inner.bytes =
     subst (HasTable o.rows o.layout) back may.table in
@@ -253,30 +253,7 @@ lines_same a b same k (x ∷ xs) (y ∷ ys) long one two =
     ∙ ap (λ (l : List ℕ). cut_line k y ++ l)
     (lines_same a b same (suc k) xs ys (omega (arith, long)) one.1 two.1)
 
--- what is aimed at is one slot and one entry
-module _ (flash : List ℕ) (layout : Places) (n : ℕ) (a b : Aim)
-    (one : AimsIn flash layout n a) (two : AimsIn flash layout n b) where
-  running_same : a.running ≡ b.running
-  running_same =
-      let same : Ok a.running ≡ Ok b.running = sym one.runs ∙ two.runs in cc
-
-  slot_same : a.slot ≡ b.slot
-  slot_same =
-      one.slot
-      ∙ ap (target_of layout (entries_in layout flash 0) (entries_in layout flash 1)) running_same
-      ∙ sym two.slot
-
-  next_same : a.next ≡ b.next
-  next_same =
-      let same : Ok a.next ≡ Ok b.next =
-      sym one.next
-      ∙ ap (λ r. aim_at layout (entries_in layout flash 0) (entries_in layout flash 1) r n a.slot)
-      running_same
-      ∙ ap (aim_at layout (entries_in layout flash 0) (entries_in layout flash 1) b.running n)
-      slot_same
-      ∙ two.next in cc
-
--- so it has one list of the driver's steps
+-- what is aimed at is one slot and one entry, so it has one list of the driver's steps
 driver_same : (layout : Places) (a b : Aim) (image : List ℕ) → a.slot ≡ b.slot → a.next ≡ b.next
     → driver_steps layout a image ≡ driver_steps layout b image
 unfolding driver_steps

@@ -12,6 +12,7 @@ use Rattle.power_cut.specs.declared.outcome.Trial.{Trial}
 use Rattle.power_cut.specs.Whole.{AreDone, BehindBoot, BehindSession, is_done, wants_boot, wants_confirm}
 use Rattle.flash_cli.specs.declared.status.Status.{Status}
 use Rattle.flash_cli.specs.declared.status.Status.TheVariants.{Done, Usage, Refused, StoreFault, DeviceFault, PowerCut, Memory, SinkFault}
+use Rattle.flash_cli.specs.declared.update_words.Options.{Options}
 use Rattle.flash_cli.specs.Answer.{Outcome}
 use Rattle.flash_cli.specs.Legs.{Confirms}
 use Rattle.flash_cli.specs.Opening.{AimsIn, Opening}
@@ -47,12 +48,12 @@ done_behind_session o aim driver true upto s dev t test ends last =
     (λ both. done_is ends.leg.end (second_true (wants_confirm upto) (is_done ends.leg.end) both))
     ends.behind last
 
-all_done : (u : Update) (o : Opening) (t : Trial) → IsUpdate u.options o t
+pub all_done : (options : Options) (o : Opening) (t : Trial) → IsUpdate options o t
     → last_end t.legs.items ≡ DoneEnd → AreDone t.legs.items
-all_done u o t is last =
+all_done options o t is last =
     let leg = is.trial.session.leg in
-    done_behind_session o is.aim u.options.driver _ u.options.upto leg is.trial.session.dev t
-    (λ both. done_is leg.end (second_true (wants_boot u.options.upto) (is_done leg.end) both))
+    done_behind_session o is.aim options.driver _ options.upto leg is.trial.session.dev t
+    (λ both. done_is leg.end (second_true (wants_boot options.upto) (is_done leg.end) both))
     is.trial.behind last
 
 -- ---- an update that fits
@@ -102,7 +103,7 @@ module _ (files : Files) (u : Update) (o : Opening)
       let made = made_so Done trial put before after ends in
       let t = made.0 in
       let is = made.1.0 in
-      let done = all_done u o t is (last_done u o t is (fits is.aim is.aims)) in
+      let done = all_done u.options o t is (last_done u o t is (fits is.aim is.aims)) in
       let left : t.flash.items ≡ flash_of u o is.aim = is.leaves done in
       record {
         aim = is.aim;

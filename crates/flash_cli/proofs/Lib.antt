@@ -27,6 +27,8 @@ pub mod UpdateLaws
 pub mod SweepCountLemmas
 pub mod SweepLemmas
 pub mod SweptLemmas
-pub mod CutLaws
 pub mod InstallLaws
+pub mod AimLaws
+pub mod CutLaws
+pub mod UnbegunLaws
 pub mod MomentLaws

@@ -123,6 +123,9 @@ module _ (shown : ShowsNone) (options : Options) (o : CodeOpening) (image : List
       fresh.steps made.trial.written.leg.ran_is made.trial.behind in
       let many = counted t made in
       let is : IsUpdate options (opening_on dev.inner.bytes image o) t = record {
+        sound = sound;
+        table = table;
+        bytes = starts.bytes;
         aim = o.aim;
         aims = subst (λ bytes. AimsIn bytes o.layout (length image) o.aim) (sym fresh.bytes)
             begun.aims;

@@ -202,6 +202,8 @@ module _ (tear : ℕ) (o : CodeOpening) (image : List ℕ) (begun : IsBegun imag
       tear o.aim image s) same is in
       let steps = sweep_counts begins 0 tear o.aim may shown (omega arith) s sweep in
       record {
+        table = begun.table;
+        bytes = opens.bytes;
         aim = o.aim;
         aims = begun.aims;
         whole = whole;

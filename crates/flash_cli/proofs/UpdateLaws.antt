@@ -96,7 +96,7 @@ failure_then cut fail n k whole (inl none) is reached =
 failure_then cut fail n k whole (inr none) is reached = absurd (cc)
 
 pub cut_reached : CutIsReached
-cut_reached options o t k sound is =
+cut_reached options o t k is =
     let whole = session_end (slot_size o.layout is.aim.slot) o.image in
     let ends = ap status_by is.ends in (
       λ status. cut_only options.cut options.fail (count_of options o is.aim) k whole
@@ -106,13 +106,13 @@ cut_reached options o t k sound is =
     )
 
 pub failure_reached : FailureIsReached
-failure_reached options o t k sound is =
+failure_reached options o t k is =
     let whole = session_end (slot_size o.layout is.aim.slot) o.image in
     let ends = ap status_by is.ends in (
       λ status. failure_only options.cut options.fail (count_of options o is.aim) k whole
           (whole_session (slot_size o.layout is.aim.slot) o.image) (sym ends ∙ status),
       λ chosen. ends ∙ failure_then options.cut options.fail (count_of options o is.aim) k whole
-          sound.one chosen.0 chosen.1,
+          is.sound.one chosen.0 chosen.1,
     )
 
 pub else_by_image : ElseByImage

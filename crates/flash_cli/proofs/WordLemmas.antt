@@ -1,12 +1,13 @@
 -- The words behind the word of a command: names, and then options.
-use Rattle.std.proofs.Common.{◌≡◌, ◌≤◌, ◌-◌, ℕ, List, [], ◌∷◌, length, take, drop, get_or, sym, ap, ◌∙◌, arith}
-use Rattle.std.specs.Prelude.{Bool, true, false, not, ◌&&◌, nat_lt, String, string_bytes, bytes_eq, Option, Some}
+use Rattle.std.proofs.Common.{◌≡◌, ◌≤◌, ◌<◌, ◌-◌, ℕ, List, [], ◌∷◌, length, take, drop, get_or, refl, sym, ap, ◌∙◌, arith}
+use Rattle.std.specs.Prelude.{Bool, true, false, not, ◌&&◌, ◌||◌, ◌==◌, nat_lt, String, string_bytes, bytes_eq, Option, Some, None}
 use Rattle.std.specs.List.{list_all, list_any}
 use Rattle.std.specs.declared.alloc.Global.{Global}
 use Rattle.std.proofs.lemmas.Bool.Decides.{nat_tests}
 use Rattle.std.proofs.lemmas.List.{take-map, drop-map, take_rest, length-map}
 use Rattle.flash_cli.specs.declared.command.Kind.{Kind}
 use Rattle.flash_cli.specs.Command.{Command, Row, rows, row_of, made, command_of, cores_of, words_of, is_file_name, has_option, are_options, fits}
+use Rattle.flash_cli.specs.UpdateWords.{value_of}
 
 -- an option with its value stands before other words
 pub option_first : (options : List (List ℕ)) (words : List (String Global)) (word : String Global) (text again_text : List ℕ)
@@ -28,6 +29,61 @@ option_first options (x ∷ value ∷ more) word text again_text known again res
     a ∙ (λ i. has_option (second i) (words_of (tail i))) in
     let rest_is : rest ≡ are_options options (words_of more) = r ∙ ap (λ ws. are_options options (words_of ws)) tail in
     λ i. known_is i && not (again_is i) && rest_is i
+
+-- an option that is known and comes once leaves the rest to be looked at
+tests_hold : (known again rest : Bool) → (not known || again) ≡ false
+    → (known && not again && rest) ≡ rest
+tests_hold true true rest is = absurd cc
+tests_hold true false rest is = refl
+tests_hold false true rest is = absurd cc
+tests_hold false false rest is = absurd cc
+
+-- and another one decides
+tests_fail : (known again rest : Bool) → (not known || again) ≡ true
+    → (known && not again && rest) ≡ false
+tests_fail true true rest is = refl
+tests_fail true false rest is = absurd cc
+tests_fail false true rest is = refl
+tests_fail false false rest is = refl
+
+module _ (options : List (List ℕ)) (words : List (String Global)) (word : String Global)
+    (text again_text : List ℕ) (known again : Bool) (long : 2 ≤ length words)
+    (is : word ≡ get_or words 0 word) (text_is : text ≡ string_bytes word)
+    (again_text_is : again_text ≡ string_bytes word)
+    (known_is : known ≡ list_any (bytes_eq text) options)
+    (again_is : again ≡ has_option again_text (words_of (take (length words - 2) (drop 2 words))))
+  where
+    abbrev rest : Bool
+    rest = are_options options (words_of (take (length words - 2) (drop 2 words)))
+
+    first : (known && not again && rest) ≡ are_options options (words_of words)
+    first = option_first options words word text again_text known again rest long is text_is
+        again_text_is known_is again_is refl
+
+    pub option_next : (not known || again) ≡ false → rest ≡ are_options options (words_of words)
+    option_next holds = sym (tests_hold known again rest holds) ∙ first
+
+    pub option_fails : (not known || again) ≡ true → false ≡ are_options options (words_of words)
+    option_fails fails = sym (tests_fail known again rest fails) ∙ first
+
+-- fewer than two words have no option with a value
+pub few_options : (options : List (List ℕ)) (words : List (String Global)) → length words < 2
+    → (length words == 0) ≡ are_options options (words_of words)
+few_options options [] few = refl
+few_options options (x ∷ []) few = refl
+few_options options (x ∷ value ∷ more) few = absurd (omega arith)
+
+pub few_have : (option : List ℕ) (words : List (String Global)) → length words < 2
+    → false ≡ has_option option (words_of words)
+few_have option [] few = refl
+few_have option (x ∷ []) few = refl
+few_have option (x ∷ value ∷ more) few = absurd (omega arith)
+
+pub few_values : (option : List ℕ) (words : List (String Global)) → length words < 2
+    → None ≡ value_of option (words_of words)
+few_values option [] few = refl
+few_values option (x ∷ []) few = refl
+few_values option (x ∷ value ∷ more) few = absurd (omega arith)
 
 -- words with a first one make the command of its row
 pub command_read : (words : List (String Global)) (word : String Global) (text : List ℕ) (row : Row) (all : List Row)

@@ -17,7 +17,7 @@ use Rattle.flash_cli.specs.declared.status.Status.TheVariants.{PowerCut}
 use Rattle.flash_cli.specs.declared.update_words.Options.{Options}
 use Rattle.flash_cli.specs.CutFlash.{all_steps, cut_flash}
 use Rattle.flash_cli.specs.Legs.{Confirms, Writes}
-use Rattle.flash_cli.specs.Opening.{AimsIn, AreOptions, Opening, opening_of}
+use Rattle.flash_cli.specs.Opening.{AimsIn, Opening, opening_of}
 use Rattle.flash_cli.specs.Updating.{IsUpdate, last_end, status_by}
 
 -- an update of these files begins so, with this aim, and its script makes no step
@@ -30,7 +30,7 @@ pub record IsSilent (flash image text : List ℕ) (o : Opening) (aim : Aim) : Ty
 -- an update that lost its power in step k leaves the flash of its list whose k-th step is torn
 abbrev pub CutUpdatesAreByFiles : Type 0
 CutUpdatesAreByFiles = (flash image text : List ℕ) (options : Options) (o : Opening) (t : Trial)
-    (k : ℕ) → AreOptions options → (is : IsUpdate options o t)
+    (k : ℕ) → (is : IsUpdate options o t)
     → IsSilent flash image text o is.aim → status_by (last_end t.legs.items) ≡ PowerCut k
     → t.flash.items ≡ cut_flash o.layout is.aim image flash options.tear k
 

@@ -1,10 +1,11 @@
 -- The flashes that a loss of power may leave at some moment of an update, and what boots of them.
-use Rattle.std.specs.Prelude.{◌≡◌, ◌≢◌, ◌⊎◌, ℕ, Bool, true, false, ◌&&◌, List, [], ◌∷◌, ◌++◌, Option, None, Result}
+use Rattle.std.specs.Prelude.{◌≡◌, ◌≢◌, ◌⊎◌, ℕ, Bool, true, false, ◌&&◌, List, [], ◌∷◌, ◌++◌, Option, None, Result, Ok}
 use Rattle.nor_device.specs.declared.nor.NorFault.{NorFault}
 use Rattle.nor_device.specs.declared.step.Step.{Step}
 use Rattle.nor_device.specs.Ram.{Ram}
 use Rattle.crash_images.specs.Crash.{LeftAfter}
 use Rattle.crash_images.specs.Cut.{CutDevice}
+use Rattle.partition_table.specs.Layout.{layout_in}
 use Rattle.rollback.specs.Boots.{boots_in}
 use Rattle.image_verify.specs.Held.{held}
 use Rattle.mmu_map.specs.Map.{Map}
@@ -107,11 +108,12 @@ module _ (o : Opening) (driver : ℕ) (aim : Aim) where
       ⊎ IsLeftConfirmedBehind (wants_boot upto && is_done trial.session.leg.end) upto
       trial.session.leg trial.session.dev t trial.behind left
 
--- one of both applications boots, but for chance, seen from the flash of the file; and some
--- application boots in every case
-abbrev pub KeepsBooting : Opening → Aim → List ℕ → Type 0
-KeepsBooting o aim left =
-    BootsEither o.layout o.flash aim o.image left × (boots_in held o.layout left ≢ None)
+-- a flash has the layout of the file by its own table; one of both applications boots of it, but for
+-- chance, seen from the flash of the file; and some application boots in every case
+pub record KeepsBooting (o : Opening) (aim : Aim) (left : List ℕ) : Type 0 where
+  pub laid : layout_in left ≡ Ok o.layout
+  pub boots : BootsEither o.layout o.flash aim o.image left
+  pub some : boots_in held o.layout left ≢ None
 
 -- so of every flash that a loss of power may leave at some moment of an update
 abbrev pub UpdatesKeepBooting : Type 0
@@ -125,6 +127,21 @@ abbrev pub SweepsKeepBooting : Type 0
 SweepsKeepBooting = (tear : ℕ) (o : Opening) (s : Swept) (is : IsSwept tear o s) (cut : Option ℕ)
     (t : Trial) (u : IsSweptUpdate o 0 tear is.aim cut t) (left : List ℕ)
     → MayBeLeft o 0 is.aim u.dev Confirm t u.trial left → KeepsBooting o is.aim left
+
+-- the flash that an update puts is one of them, and so is that which each update of a sweep leaves
+abbrev pub PutFlashesMayBeLeft : Type 0
+PutFlashesMayBeLeft = (options : Options) (o : Opening) (t : Trial) (is : IsUpdate options o t)
+    → MayBeLeft o options.driver is.aim is.device options.upto t is.trial t.flash.items
+
+abbrev pub SweptFlashesMayBeLeft : Type 0
+SweptFlashesMayBeLeft = (tear : ℕ) (o : Opening) (s : Swept) (is : IsSwept tear o s)
+    (cut : Option ℕ) (t : Trial) (u : IsSweptUpdate o 0 tear is.aim cut t)
+    → MayBeLeft o 0 is.aim u.dev Confirm t u.trial t.flash.items
+
+-- so it has the layout of the file, and boots
+abbrev pub PutFlashesKeepBooting : Type 0
+PutFlashesKeepBooting = (options : Options) (o : Opening) (t : Trial) (is : IsUpdate options o t)
+    → KeepsBooting o is.aim t.flash.items
 
 -- and once the new application is announced, or confirmed, it boots, whatever the other core does
 -- behind that

@@ -3,7 +3,7 @@ use Rattle.std.specs.Prelude.{◌≡◌, ◌≤◌, ◌%◌, ◌==◌, not, nat_
 use Rattle.nor_device.specs.FlashSize.{is_flash_size}
 use Rattle.nor_device.specs.Ram.{Ram}
 use Rattle.crash_images.specs.Cut.{CutDevice, IsAhead, NotBoth}
-use Rattle.power_cut.specs.Device.{IsReady}
+use Rattle.power_cut.specs.Device.{IsReady, faults_of}
 use Rattle.partition_table.specs.declared.bad.TableBad.{TableBad}
 use Rattle.partition_table.specs.declared.row.Row.{Row}
 use Rattle.partition_table.specs.Layout.{Places, layout_in, layout_of}
@@ -165,10 +165,13 @@ pub record AreOptions (options : Options) : Type 0 where
   pub cut : IsAhead options.cut 0
   pub fail : IsAhead options.fail 0
 
--- a device with this flash that made no step yet, with the chosen step and the tear number
+-- a device with this flash that made no step and counted no fault yet, of which each step is asked
+-- twice before it ends, with the chosen step and the tear number
 pub record IsFresh (options : Options) (flash : List ℕ) (dev : CutDevice Ram) : Type 0 where
   pub ready : IsReady dev
   pub steps : dev.steps ≡ 0
+  pub faults : faults_of dev ≡ 0
+  pub polls : dev.inner.polls ≡ 2
   pub bytes : dev.inner.bytes ≡ flash
   pub cut : dev.cut ≡ options.cut
   pub tear : dev.tear ≡ options.tear

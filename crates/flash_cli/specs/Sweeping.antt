@@ -1,6 +1,6 @@
 -- What a sweep comes to: the steps of an update and what boots behind a cut in each of them, or a
 -- refusal; its status and its text. It puts no file.
-use Rattle.std.specs.Prelude.{◌≡◌, ◌⊎◌, ◌≤◌, ℕ, nat_lt, if◌then◌else◌, List, length, Option, Some, Result, Ok, Err, string_bytes, codes}
+use Rattle.std.specs.Prelude.{◌≡◌, ◌⊎◌, ◌<◌, ◌≤◌, ℕ, nat_lt, if◌then◌else◌, All, List, length, Option, Some, Result, Ok, Err, string_bytes, codes}
 use Rattle.boot_run.specs.declared.aims.Aim.{Aim}
 use Rattle.pipe_ends.specs.Store.{Files}
 use Rattle.pipe_ends.specs.Sink.{TellsAll, TellsSome}
@@ -15,6 +15,7 @@ use Rattle.power_cut.specs.declared.swept.SweepNo.{SweepNo}
 use Rattle.power_cut.specs.declared.swept.SweepNo.TheVariants.{Refused as RefusedSession, Memory as NoMemory}
 use Rattle.power_cut.specs.Update.{session_end, slot_size}
 use Rattle.power_cut.specs.Sweep.{IsRefused, IsSweep, IsUpdateOf}
+use Rattle.duo_run.specs.Both.{HasTable}
 use Rattle.duo_run.specs.Worker.{worker_steps}
 use Rattle.flash_text.specs.declared.refusal.Refusal.{Refusal}
 use Rattle.flash_text.specs.declared.refusal.Refusal.TheVariants.{Absent as AbsentFile, SweepLimit}
@@ -61,11 +62,13 @@ abbrev pub sweep_count : Opening → Aim → ℕ
 sweep_count o aim =
     update_count o.layout aim o.image (worker_steps o.rows o.script) Confirm o.flash
 
--- a sweep that began so, with this tear number: the steps of an update by both cores that was not
--- cut, of which core 0 is the driver, beside a core that writes to nothing that a boot reads, and
+-- a sweep that began so, with the layout by its flash's table, an image of bytes and this tear
+-- number: the steps of an update by both cores that was not cut, of which core 0 is the driver, beside a core that writes to nothing that a boot reads, and
 -- what boots behind a cut in each of them. These are as many as the files give, and an update that is
 -- cut in one of them ends there
 pub record IsSwept (tear : ℕ) (o : Opening) (s : Swept) : Type 0 where
+  pub table : HasTable o.rows o.layout o.flash
+  pub bytes : All (λ b. b < 256) o.image
   pub aim : Aim
   pub aims : AimsIn o.flash o.layout (length o.image) aim
   pub whole : session_end (slot_size o.layout aim.slot) o.image ≡ DoneEnd

@@ -1,5 +1,5 @@
 -- What an update comes to: a trial, the status by its last leg, its text, and the file that is put.
-use Rattle.std.specs.Prelude.{◌≡◌, ◌≢◌, ◌⊎◌, ℕ, ◌+◌, nat_le, if◌then◌else◌, List, [], ◌∷◌, length, Option, Some, None, Result, Ok, Err, string_bytes, codes}
+use Rattle.std.specs.Prelude.{◌≡◌, ◌≢◌, ◌⊎◌, ◌<◌, ℕ, ◌+◌, nat_le, if◌then◌else◌, All, List, [], ◌∷◌, length, Option, Some, None, Result, Ok, Err, string_bytes, codes}
 use Rattle.crash_images.specs.Cut.{CutDevice}
 use Rattle.nor_device.specs.Ram.{Ram}
 use Rattle.boot_select.specs.Boots.{entries_in, images_in}
@@ -18,6 +18,7 @@ use Rattle.power_cut.specs.declared.outcome.Trial.{Trial}
 use Rattle.power_cut.specs.Installed.{installed_flash}
 use Rattle.power_cut.specs.Update.{BootsEither, session_end, slot_size}
 use Rattle.power_cut.specs.Whole.{AreDone, BootsNew, IsTrial}
+use Rattle.duo_run.specs.Both.{HasTable}
 use Rattle.duo_run.specs.Worker.{worker_steps}
 use Rattle.flash_text.specs.declared.refusal.Refusal.{Refusal}
 use Rattle.flash_text.specs.declared.refusal.Refusal.TheVariants.{Absent as AbsentFile, Empty, FirstByte, Image}
@@ -32,7 +33,7 @@ use Rattle.flash_cli.specs.Answer.{Outcome, TellsPuts, TellsSomePuts, refused_ou
 use Rattle.flash_cli.specs.Reading.{Absence, Asks, ComesTo, Ended, Reading}
 use Rattle.flash_cli.specs.Report.{IsCountedFailure}
 use Rattle.flash_cli.specs.UpdateWords.{Update}
-use Rattle.flash_cli.specs.Opening.{AimsIn, IsFresh, Opening, opening_of}
+use Rattle.flash_cli.specs.Opening.{AimsIn, AreOptions, IsFresh, Opening, opening_of}
 use Rattle.flash_cli.specs.Legs.{Confirms, Writes}
 use Rattle.flash_cli.specs.StepCount.{IsCounted, update_count}
 
@@ -65,12 +66,16 @@ chosen_end (Some k) fail steps whole = if nat_le k steps then Cut k else whole
 chosen_end None (Some k) steps whole = if nat_le k steps then Device k else whole
 chosen_end None None steps whole = whole
 
--- an update with these options that began so: the session, the boot and the confirmation of a
--- device with the flash, as far as they go, beside a core that writes to nothing that a boot reads.
+-- an update with these options that began so, with the layout by its flash's table and an image of
+-- bytes: the session, the boot and the confirmation of a device with the flash, as far as they go,
+-- beside a core that writes to nothing that a boot reads.
 -- It has as many steps as the files and the words give, and ends in the chosen one where there are
 -- so many, which is where that was begun; what boots of the flash that is left; and where all legs
 -- were made whole, this flash is a function of the files and the words
 pub record IsUpdate (options : Options) (o : Opening) (t : Trial) : Type 0 where
+  pub sound : AreOptions options
+  pub table : HasTable o.rows o.layout o.flash
+  pub bytes : All (λ b. b < 256) o.image
   pub aim : Aim
   pub aims : AimsIn o.flash o.layout (length o.image) aim
   pub device : CutDevice Ram

@@ -272,16 +272,16 @@ fn are_options(options: &[&str], words: &[String]) -> bool
     ensures exact { result
         ≡ are_options (map (λ option. option.now) options.now) (words_of words.now) }
 {
-    match words {
-        [] => true,
-        [_] => false,
-        [word, _, more @ ..] => {
-            let known = is_one_of(options, word.as_str());
-            let again = has_option(word.as_str(), more);
-            let rest = are_options(options, more);
-            known & !again & rest
+    let mut left = words;
+    while let [word, _, more @ ..] = left {
+        let known = is_one_of(options, word.as_str());
+        let again = has_option(word.as_str(), more);
+        if !known | again {
+            return false;
         }
+        left = more;
     }
+    left.is_empty()
 }
 
 /// Whether an option is one of these.
@@ -300,11 +300,14 @@ fn is_one_of(options: &[&str], word: &str) -> bool
 fn has_option(option: &str, words: &[String]) -> bool
     ensures exact { result ≡ has_option option.now (words_of words.now) }
 {
-    match words {
-        [] => false,
-        [_] => false,
-        [word, _, more @ ..] => word.as_str() == option || has_option(option, more),
+    let mut left = words;
+    while let [word, _, more @ ..] = left {
+        if word.as_str() == option {
+            return true;
+        }
+        left = more;
     }
+    false
 }
 
 #[cfg(test)]

@@ -2,9 +2,9 @@
 
 ghost use Rattle.flash_cli.specs.Laws.{UsageIsOfNoCommand, NoCommandIsUsage, ToldFilesDetermine, RefusedPutsNothing, FaultlessIsWork, MadeIsWhole, MadeIsFactoryFlash};
 ghost use Rattle.flash_cli.specs.CutLaws.{CutUpdatesAreByFiles, SilentSweepsAreByFiles, SilentSweepsAreTheSame};
-ghost use Rattle.flash_cli.specs.UpdateLaws.{CutIsReached, ElseByImage, FailureIsReached};
-ghost use Rattle.flash_cli.specs.Installs.{FaultlessUpdateInstalls};
-ghost use Rattle.flash_cli.specs.Moments.{SweepsBootNew, SweepsKeepBooting, UpdatesBootNew, UpdatesKeepBooting};
+ghost use Rattle.flash_cli.specs.UpdateLaws.{AimsAreOne, CutIsReached, DoneUpdatesLeaveOneFlash, ElseByImage, FailureIsReached};
+ghost use Rattle.flash_cli.specs.Installs.{FaultlessSweepIsMade, FaultlessUpdateInstalls, RefusedSweepIsRefused, RefusedUpdateIsRefused};
+ghost use Rattle.flash_cli.specs.Moments.{PutFlashesKeepBooting, PutFlashesMayBeLeft, SweepsBootNew, SweepsKeepBooting, SweptFlashesMayBeLeft, UpdatesBootNew, UpdatesKeepBooting};
 
 use image_maker::made_images_are_whole;
 use image_verify::whole_images_show_no_fault;
@@ -56,12 +56,21 @@ pub(crate) fn updates_end_in_their_chosen_step()
     ensures image { ElseByImage }
 {}
 
-/// Of every flash that a loss of power may leave, at any moment of an update's session, its boot or
-/// its confirmation, the application boots that ran, or the new one, whole, unless the entry that is
-/// found matches by chance; and some application boots in every case. So of each update of a sweep.
+/// Every flash that a loss of power may leave, at any moment of an update's session, its boot or its
+/// confirmation, has the layout of the file by its own table. Of it the application boots that ran,
+/// or the new one, whole, unless the entry that is found matches by chance; and some application
+/// boots in every case. So of each update of a sweep.
 pub(crate) fn power_lost_at_any_moment_leaves_old_or_new()
     ensures update { UpdatesKeepBooting }
     ensures sweep { SweepsKeepBooting }
+{}
+
+/// The flash that an update puts is one that a loss of power may leave at some moment of it, and so
+/// is that which each update of a sweep leaves; so it has the layout of the file, and boots.
+pub(crate) fn the_flash_that_is_put_may_be_left()
+    ensures update { PutFlashesMayBeLeft }
+    ensures sweep { SweptFlashesMayBeLeft }
+    ensures keeps { PutFlashesKeepBooting }
 {}
 
 /// Once both steps of a confirmation are made, of every flash that a loss of power may leave the new
@@ -77,6 +86,29 @@ pub(crate) fn once_confirmed_the_new_application_boots()
 /// memory runs out: the status is done, and the flash that the files and the words give is put.
 pub(crate) fn an_update_without_a_fault_installs_its_image()
     ensures installed { FaultlessUpdateInstalls }
+{}
+
+/// A sweep whose files refuse nothing and whose image is whole within its slot is carried out, where
+/// neither the store nor the sink failed, unless memory runs out: the status is done, and its lines
+/// are pushed.
+pub(crate) fn a_sweep_without_a_fault_is_made()
+    ensures made { FaultlessSweepIsMade }
+{}
+
+/// An update whose files refuse it, or are not there, is refused for that reason, where neither the
+/// store nor the sink failed, unless memory runs out: no file is put, and the line of the refusal is
+/// pushed. So is a sweep.
+pub(crate) fn what_may_not_begin_is_refused()
+    ensures update { RefusedUpdateIsRefused }
+    ensures sweep { RefusedSweepIsRefused }
+{}
+
+/// What an update aims at is one and the same for the same files. Two updates of the same files that
+/// go as far and are done leave one and the same flash, whichever cores drive and in whichever order
+/// the turns came.
+pub(crate) fn an_update_leaves_one_flash()
+    ensures aim { AimsAreOne }
+    ensures flash { DoneUpdatesLeaveOneFlash }
 {}
 
 /// Where the script makes no step, the flash that a cut leaves is a function of the files, the tear

@@ -111,17 +111,14 @@ impl Options {
 pub(crate) fn value_of<'a>(option: &str, words: &'a [String]) -> Option<&'a str>
     ensures exact { option_copied result ≡ value_of option.now (words_of words.now) }
 {
-    match words {
-        [] => None,
-        [_] => None,
-        [word, value, more @ ..] => {
-            if word.as_str() == option {
-                Some(value.as_str())
-            } else {
-                value_of(option, more)
-            }
+    let mut left = words;
+    while let [word, value, more @ ..] = left {
+        if word.as_str() == option {
+            return Some(value.as_str());
         }
+        left = more;
     }
+    None
 }
 
 /// The core that writes: 0 or 1, and 0 where nothing is said.

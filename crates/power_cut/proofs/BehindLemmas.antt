@@ -53,7 +53,7 @@ use Rattle.power_cut.specs.Update.{BootsEither, Opens, image_of, size_or_none, s
 use Rattle.power_cut.specs.Behind.{IsAnnounced, IsBehind}
 
 -- an application's partition lies behind the table
-row_behind : (size : ℕ) (row : Row) → Stands size row → 0x9000 ≤ row.offset
+pub row_behind : (size : ℕ) (row : Row) → Stands size row → 0x9000 ≤ row.offset
 unfolding is_within
 row_behind size row stands = let within = stands.within in grind (arith, nat_tests)
 

@@ -21,7 +21,7 @@ use Rattle.image_verify.specs.Bad.{bad}
 use Rattle.mmu_map.specs.Map.{Map}
 use Rattle.bus_hub.specs.declared.did.Did.{Did}
 use Rattle.boot_run.specs.declared.aims.Aim.{Aim}
-use Rattle.boot_run.specs.Rewriting.{rewrite, rewrites}
+use Rattle.boot_run.specs.Rewriting.{rewrite}
 use Rattle.boot_run.proofs.CrashLemmas.{label_short}
 use Rattle.boot_run.proofs.FrameLemmas.{rewrites_within}
 use Rattle.boot_run.proofs.MadeLemmas.{made_by_left}
@@ -137,12 +137,24 @@ image_left flash left otadata row next (byte ∷ bytes) begins aligned small sho
 
 -- ---- the legs
 
+-- the flash that a boot leaves is one that a loss of power may leave of its steps
+pub boot_left : (layout : Places) (old new : CutDevice Ram) (leg : Leg)
+    → IsBootLeg layout old new leg
+    → LeftAfter old.inner.bytes (boot_steps layout old.inner.bytes) new.inner.bytes
+boot_left layout old new leg boot =
+    let flash = old.inner.bytes in
+    let left = made_by_left MayEnd MayTear MayRefuse MustRefuse (setting_of old)
+    (boot_steps layout flash) old.steps new.steps (Some flash) (Some new.inner.bytes) boot.answer
+    boot.made in
+    let same : left.0 ≡ new.inner.bytes = let e = left.1 in cc in
+    subst (λ (f : List ℕ). LeftAfter flash (boot_steps layout flash) f) same left.2
+
 module _ (layout : Places) (aim : Aim) (others : ℕ → Bool) where
   abbrev Stays : ℕ → Type 0
   Stays = IsUntouched layout aim others
 
   -- at every moment of a session
-  update_beside : (flash : List ℕ) (image : List ℕ) (now : List ℕ) → Opens layout flash aim image
+  pub update_beside : (flash : List ℕ) (image : List ℕ) (now : List ℕ) → Opens layout flash aim image
       → HoldsUpdate layout flash aim image others now → Agrees Stays flash now
   update_beside flash image now opens holds =
       agrees_beside flash holds.made holds.rest others now holds.stands Stays (λ i is. is.spared)
@@ -184,24 +196,23 @@ module _ (layout : Places) (aim : Aim) (others : ℕ → Bool) where
       (λ i is. is.otadata)
       (left_agrees layout.otadata (layout.otadata + 8192) flash steps left within after)
 
-  -- of a boot
+  -- at every moment of a boot
+  pub booting_beside : (size : ℕ) (flash left : List ℕ) → IsPlaced layout size
+      → LeftAfter flash (boot_steps layout flash) left → Agrees Stays flash left
+  booting_beside size flash left placed after =
+      data_beside flash left (boot_steps layout flash)
+      (rewrites_within layout.otadata (boot_writes (entries_in layout flash)) placed.aligned
+      (boot_short (entries_in layout flash) (λ y below. label_short layout flash y)
+      (boot_writes (entries_in layout flash)) (boot_are (entries_in layout flash)))) after
+
+  -- and behind it
   pub boot_beside : (size : ℕ) (old new : CutDevice Ram) (leg : Leg) → IsPlaced layout size
       → IsBootLeg layout old new leg → Agrees Stays old.inner.bytes new.inner.bytes
   boot_beside size old new leg placed boot =
-      let flash = old.inner.bytes in
-      let writes = boot_writes (entries_in layout flash) in
-      let left = made_by_left MayEnd MayTear MayRefuse MustRefuse (setting_of old)
-      (boot_steps layout flash) old.steps new.steps (Some flash) (Some new.inner.bytes) boot.answer
-      boot.made in
-      let same : left.0 ≡ new.inner.bytes = let e = left.1 in cc in
-      data_beside flash new.inner.bytes (rewrites layout.otadata writes)
-      (rewrites_within layout.otadata writes placed.aligned
-      (boot_short (entries_in layout flash) (λ y below. label_short layout flash y) writes
-      (boot_are (entries_in layout flash))))
-      (subst (λ (f : List ℕ). LeftAfter flash (boot_steps layout flash) f) same left.2)
+      booting_beside size old.inner.bytes new.inner.bytes placed (boot_left layout old new leg boot)
 
   -- at every moment of a confirmation
-  rewrite_beside : (size : ℕ) (flash now : List ℕ) (write : Rewrite) → IsPlaced layout size
+  pub rewrite_beside : (size : ℕ) (flash now : List ℕ) (write : Rewrite) → IsPlaced layout size
       → IsConfirming layout flash write → HoldsRewrite layout flash write others now
       → Agrees Stays flash now
   rewrite_beside size flash now write placed confirming holds =

@@ -209,18 +209,23 @@ module _ {K P : Type 0} (part : K → ℕ → P) (grants : P → Step → Type 0
 module _ (drives works : Result (Unit {0}) NorFault → List Did → Type 0) (driver : ℕ)
     (pages : Map → Type 0) (holds : List ℕ → Type 0) (old new : CutDevice Ram) (journal : Kept)
     (leg : IsLeg drives works driver pages holds old new journal) where
-  -- it holds of the flash that is left
-  pub holds_behind : holds new.inner.bytes
-  holds_behind =
+  -- the flash that is left is one that a loss of power may leave behind the whole log
+  pub left_at_end : LeavesBehind leg.base leg.stands.stood.log new.inner.bytes
+  left_at_end =
       let log : List Item = leg.stands.stood.log in
       let told : leg.stands.flash ≡ leg.back.inner.bytes = let e = leg.stands.told in cc in
       let flash_is : (state_behind leg.base log).flash ≡ leg.back.inner.bytes =
       ap (λ (s : State AnyDuty). s.flash) leg.stands.stood.leads ∙ told in
       let idle : (state_behind leg.base log).running ≡ None =
       ap (λ (s : State AnyDuty). s.running) leg.stands.stood.leads in
-      leg.moments log [] new.inner.bytes (sym (append-nil log))
-      (subst (λ (o : Option Running). LeavesNow (state_behind leg.base log).flash (step_of o)
-      new.inner.bytes) (sym idle) (sym leg.same.bytes ∙ sym flash_is))
+      subst (λ (o : Option Running). LeavesNow (state_behind leg.base log).flash (step_of o)
+      new.inner.bytes) (sym idle) (sym leg.same.bytes ∙ sym flash_is)
+
+  -- so it holds of that
+  pub holds_behind : holds new.inner.bytes
+  holds_behind =
+      let log : List Item = leg.stands.stood.log in
+      leg.moments log [] new.inner.bytes (sym (append-nil log)) left_at_end
 
 module _ (drives works : Result (Unit {0}) NorFault → List Did → Type 0) (driver : ℕ)
     (pages : Map → Type 0) (layout : Places) (others : ℕ → Bool) (apart : IsApart layout others)

@@ -11,5 +11,6 @@ pub mod InstalledLemmas
 pub mod EmptyLemmas
 pub mod OpensLemmas
 pub mod BesideLemmas
+pub mod LaidLemmas
 pub mod RestoringLemmas
 pub mod SweepLemmas

@@ -9,7 +9,8 @@ use Rattle.rollback.specs.Rewrite.{with_state}
 use Rattle.image_layout.specs.Whole.{Whole}
 use Rattle.image_verify.specs.Held.{held}
 use Rattle.boot_run.specs.declared.aims.Aim.{Aim}
-use Rattle.power_cut.specs.Update.{image_of, slot_size}
+use Rattle.power_cut.specs.Update.{Opens, image_of, slot_size}
+use Rattle.power_cut.specs.Whole.{boot_steps}
 
 -- seen from the flash at the opening: both applications have their images, which are whole; the
 -- table and the entry beside the next one are as they were
@@ -28,3 +29,10 @@ pub record IsAnnounced (layout : Places) (first : List ℕ) (aim : Aim) (image :
     (now : List ℕ) : Type 0 where
   pub behind : IsBehind layout first aim image now
   pub here : entries_in layout now aim.next.sector ≡ with_state state aim.next.entry
+
+-- a boot of a flash in which the next entry is announced has two steps: those of the one rewrite that
+-- lets the entry wait
+abbrev pub AnnouncedBootHasTwoSteps : Type 0
+AnnouncedBootHasTwoSteps = (layout : Places) (first : List ℕ) (aim : Aim) (image now : List ℕ)
+    → Opens layout first aim image → IsAnnounced layout first aim image 0 now
+    → length (boot_steps layout now) ≡ 2

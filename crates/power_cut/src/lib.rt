@@ -5,6 +5,7 @@
 mod behind;
 mod booting;
 mod closing;
+mod laws;
 mod legs;
 mod outcome;
 mod restoring;
@@ -16,6 +17,7 @@ mod swept;
 mod tests;
 
 pub use behind::leg_behind;
+pub use laws::a_boot_of_an_announced_entry_has_two_steps;
 pub use legs::{Leg, LegEnd, Ran, Upto};
 pub use outcome::Trial;
 pub use run::trial;
