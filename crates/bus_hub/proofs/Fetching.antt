@@ -12,14 +12,14 @@ use Rattle.bus_hub.specs.declared.reads.FetchNo.{FetchNo}
 use Rattle.bus_hub.specs.declared.reads.FetchNo.TheVariants as refusals
 use Rattle.bus_hub.specs.declared.span.Span.{Span}
 use Rattle.bus_hub.specs.declared.did.Did.{Did}
-use Rattle.bus_hub.specs.declared.did.Did.TheVariants.{Fetched, Denied, Missed, Masked}
+use Rattle.bus_hub.specs.declared.did.Did.TheVariants.{Fetched, Missed, Masked, Unfetched}
 use Rattle.bus_hub.specs.declared.did.Base.{Base}
 use Rattle.bus_hub.specs.Log.{State, Rule, change}
 use Rattle.bus_hub.specs.Fetch.{IsReachable, IsUnmapped, IsRead, IsServed}
 use Rattle.bus_hub.specs.Hub.{Hub, Fits, Stands, state_of}
 use Rattle.bus_hub.specs.Told.{Asks, IsSplit, IsBothParts, IsFetched, IsDenied, Fetches, with_device, fetched, fetch_items, added}
 use Rattle.bus_hub.proofs.Adds.{adds}
-use Rattle.bus_hub.proofs.Stepping.{denied, power_on, powered}
+use Rattle.bus_hub.proofs.Stepping.{power_on, powered, refused}
 use Rattle.bus_hub.proofs.Spans.{split_reaches, parts_read}
 
 module _ {D S K P : Type 0}
@@ -145,16 +145,21 @@ module _ {D S K P : Type 0}
         leads = none (state_of old flash (steps old.dev) noted is_off);
       }))
 
+  -- a fetch that the device refused is a mark with its range
   denial_is : (old new : Hub D K) (c : ℕ) (regs : Regs) (at len : ℕ) (why : NorFault) → c < 2
       → old.running ≡ None
       → IsDenied bytes size off steps faults setting may_refuse must_refuse old new regs at len why
-      → GoesOn StandsBy Fits old new c (Denied why ∷ [])
+      → GoesOn StandsBy Fits old new c (Unfetched at len why ∷ [])
   denial_is old new c regs at len why small idle d =
-      subst (λ (h : Hub D K). GoesOn StandsBy Fits old h c (Denied why ∷ [])) (sym d.is)
-      (denied bytes off steps faults setting may_end may_tear may_refuse must_refuse
+      subst (λ (h : Hub D K). GoesOn StandsBy Fits old h c (Unfetched at len why ∷ [])) (sym d.is)
+      (refused bytes off steps faults setting may_end may_tear may_refuse must_refuse
       part grants after good
-      old new.dev c why small idle d.device.told d.device.steps_same d.device.setting_same
-      d.device.allowed d.device.cause)
+      old new.dev c why (Unfetched at len why) small d.device.told d.device.steps_same
+      d.device.setting_same d.device.cause (λ flash noted is_off told. (
+        idle,
+        d.device.allowed,
+        subst (λ (n : ℕ). IsReachable old.map n at len) (sym (sized old.dev flash told)) d.reachable,
+      )) (λ s. refl))
 
   -- a fetch
   pub fetches : (old new : Hub D K) (c k : ℕ) (regs : Regs) (at len : ℕ)

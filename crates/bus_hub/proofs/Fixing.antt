@@ -12,7 +12,7 @@ use Rattle.mmu_map.specs.Calls.{FixedAt}
 use Rattle.mmu_map.proofs.Fixed.{KeepsFixed, keeps_nothing_new, keeps_then, keeps, map_keeps, unmap_keeps, fixed_there, leads_there}
 use Rattle.bus_hub.specs.declared.did.Running.{Running}
 use Rattle.bus_hub.specs.declared.did.Did.{Did}
-use Rattle.bus_hub.specs.declared.did.Did.TheVariants.{Opened, Closed, Broken, Fetched, Noted, Denied, Mapping, Unmapping, Missed, Masked}
+use Rattle.bus_hub.specs.declared.did.Did.TheVariants.{Opened, Closed, Broken, Fetched, Noted, Denied, Mapping, Unmapping, Missed, Masked, Unfetched}
 use Rattle.bus_hub.specs.declared.did.Base.{Base}
 use Rattle.bus_hub.specs.Fetch.{IsFixed, IsInFlash, IsUnmapped}
 use Rattle.bus_hub.specs.Log.{State, Rule, change, made_whole}
@@ -81,6 +81,7 @@ module _ {S K P : Type 0}
   item_keeps set s c (Unmapping at answer) rule good = unmap_keeps s.map at answer good rule.1
   item_keeps set s c (Missed at len) rule good = keeps_nothing_new s.map good
   item_keeps set s c (Masked at len) rule good = keeps_nothing_new s.map good
+  item_keeps set s c (Unfetched at len why) rule good = keeps_nothing_new s.map good
 
   module _ {D : Type 0} (bytes : D → Option (List ℕ)) (size : D → ℕ) (off : D → Bool)
       (steps faults : D → ℕ) (setting : D → S) (good : List ℕ → K → List ℕ → Type 0)

@@ -9,7 +9,7 @@ use Rattle.nor_device.proofs.FlashLaws.{after_steps_append}
 use Rattle.mmu_map.specs.Map.{Map}
 use Rattle.bus_hub.specs.declared.did.Running.{Running}
 use Rattle.bus_hub.specs.declared.did.Did.{Did}
-use Rattle.bus_hub.specs.declared.did.Did.TheVariants.{Opened, Closed, Broken, Fetched, Noted, Denied, Mapping, Unmapping, Missed, Masked}
+use Rattle.bus_hub.specs.declared.did.Did.TheVariants.{Opened, Closed, Broken, Fetched, Noted, Denied, Mapping, Unmapping, Missed, Masked, Unfetched}
 use Rattle.bus_hub.specs.Fetch.{IsRead}
 use Rattle.bus_hub.specs.Log.{Item, item, State, Runs, Rule, change, made_whole, reached}
 use Rattle.bus_hub.specs.Shares.{Begun, begun_of, steps_of, open_after, made_by, made_from, made, all_of, AreUnbroken, map_after_item, map_after_all, ShowsFlash}
@@ -88,6 +88,12 @@ module _ {S K P : Type 0}
     open_is = refl;
     map_is = refl;
   }
+  leaves_item set s c (Unfetched at len why) whole rule = record {
+    flash_is = refl;
+    open_is = refl;
+    map_is
+        = refl;
+  }
 
   -- of a log without a break, its first item and the others
   unbroken_first : (did : Did) (share : List Did) → AreUnbroken (did ∷ share)
@@ -102,6 +108,7 @@ module _ {S K P : Type 0}
   unbroken_first (Unmapping at answer) share whole = tt
   unbroken_first (Missed at len) share whole = tt
   unbroken_first (Masked at len) share whole = tt
+  unbroken_first (Unfetched at len why) share whole = tt
 
   unbroken_later : (did : Did) (share : List Did) → AreUnbroken (did ∷ share) → AreUnbroken share
   unbroken_later (Opened k regs step) share whole = whole
@@ -114,6 +121,7 @@ module _ {S K P : Type 0}
   unbroken_later (Unmapping at answer) share whole = whole
   unbroken_later (Missed at len) share whole = whole
   unbroken_later (Masked at len) share whole = whole
+  unbroken_later (Unfetched at len why) share whole = whole
 
   -- the flash and the map after a log
   pub flash_of_log : (set : S) (s : State K) (log : List Item)

@@ -7,7 +7,7 @@ use Rattle.nor_device.specs.declared.nor.StepEnd.TheVariants as ends
 use Rattle.nor_device.specs.declared.nor.NorFault.{NorFault}
 use Rattle.bus_hub.specs.declared.did.Running.{Running}
 use Rattle.bus_hub.specs.declared.did.Did.{Did}
-use Rattle.bus_hub.specs.declared.did.Did.TheVariants.{Opened, Closed, Broken, Fetched, Noted, Denied, Mapping, Unmapping, Missed, Masked}
+use Rattle.bus_hub.specs.declared.did.Did.TheVariants.{Opened, Closed, Broken, Fetched, Noted, Denied, Mapping, Unmapping, Missed, Masked, Unfetched}
 use Rattle.bus_hub.specs.declared.did.Base.{Base}
 use Rattle.bus_hub.specs.declared.entry.Act.TheVariants.{Close}
 use Rattle.bus_hub.specs.Log.{Item, State, Rule, Ruled, change, entry_of, made_whole, reached, with_one}
@@ -86,6 +86,7 @@ module _ {K L : Type 0} (free : L) where
     free_change s c (Unmapping at answer) = refl
     free_change s c (Missed at len) = refl
     free_change s c (Masked at len) = refl
+    free_change s c (Unfetched at len why) = refl
 
     pub free_reached : (s : State K) (log : List Item)
         → free_state (reached after s log) ≡ reached Still (free_state s) log
@@ -119,6 +120,7 @@ module _ {K L : Type 0} (free : L) where
       free_rule set s c (Unmapping at answer) rule = rule
       free_rule set s c (Missed at len) rule = rule
       free_rule set s c (Masked at len) rule = rule
+      free_rule set s c (Unfetched at len why) rule = rule
 
       abbrev IsRuled : S → State K → List Item → Type 0
       IsRuled = Ruled may_end may_tear may_refuse must_refuse part grants after

@@ -8,7 +8,7 @@ use Rattle.nor_device.specs.Flash.{applied}
 use Rattle.nor_device.specs.Torn.{Torn}
 use Rattle.bus_hub.specs.declared.did.Running.{Running}
 use Rattle.bus_hub.specs.declared.did.Did.{Did}
-use Rattle.bus_hub.specs.declared.did.Did.TheVariants.{Opened, Closed, Broken, Fetched, Noted, Denied, Mapping, Unmapping, Missed, Masked}
+use Rattle.bus_hub.specs.declared.did.Did.TheVariants.{Opened, Closed, Broken, Fetched, Noted, Denied, Mapping, Unmapping, Missed, Masked, Unfetched}
 use Rattle.bus_hub.specs.declared.did.Base.{Base}
 use Rattle.bus_hub.specs.Log.{State, Runs, Rule, change, made_whole}
 use Rattle.bus_hub.specs.Hub.{Hub, Stands, begun, state_of, step_of}
@@ -92,6 +92,10 @@ module _ {S K P : Type 0}
   }
   item_good first set s c (Missed at len) small rule is = is
   item_good first set s c (Masked at len) small rule is = is
+  item_good first set s c (Unfetched at len why) small rule is = record {
+    flash_good = is.flash_good;
+    granted = is.granted;
+  }
 
   module _ {D : Type 0} (bytes : D → Option (List ℕ)) (running : D → Option Step)
       (off : D → Bool) (steps faults : D → ℕ) (setting : D → S) (may_leave : D → List ℕ → Type 0)

@@ -12,7 +12,7 @@ use Rattle.bus_hub.specs.declared.entry.Act.TheVariants.{Open, Close, Fetch, Set
 use Rattle.bus_hub.specs.declared.entry.Entry.{Entry}
 use Rattle.bus_hub.specs.declared.did.Running.{Running}
 use Rattle.bus_hub.specs.declared.did.Did.{Did}
-use Rattle.bus_hub.specs.declared.did.Did.TheVariants.{Opened, Closed, Broken, Fetched, Noted, Denied, Mapping, Unmapping, Missed, Masked}
+use Rattle.bus_hub.specs.declared.did.Did.TheVariants.{Opened, Closed, Broken, Fetched, Noted, Denied, Mapping, Unmapping, Missed, Masked, Unfetched}
 use Rattle.bus_hub.specs.Log.{Item, State, Runs, Rule, IsPlain, change, made_whole, reached, entry_of, opening}
 use Rattle.bus_hub.specs.Hub.{core_of}
 use Rattle.bus_hub.specs.Legal.{MayStand, core_after, LegalTo}
@@ -93,6 +93,7 @@ module _ {S K P : Type 0}
   legal_item set s c (Unmapping at answer) small rule is = is
   legal_item set s c (Missed at len) small rule is = is
   legal_item set s c (Masked at len) small rule is = is
+  legal_item set s c (Unfetched at len why) small rule is = is
 
   pub legal_log : (set : S) (s : State K) (log : List Item)
       → Keeps may_end may_tear may_refuse must_refuse part grants after set s log

@@ -8,7 +8,7 @@ use Rattle.nor_device.specs.declared.nor.NorFault.{NorFault}
 use Rattle.nor_device.specs.Torn.{Torn}
 use Rattle.bus_hub.specs.declared.did.Running.{Running}
 use Rattle.bus_hub.specs.declared.did.Did.{Did}
-use Rattle.bus_hub.specs.declared.did.Did.TheVariants.{Opened, Closed, Broken, Fetched, Noted, Denied, Mapping, Unmapping, Missed, Masked}
+use Rattle.bus_hub.specs.declared.did.Did.TheVariants.{Opened, Closed, Broken, Fetched, Noted, Denied, Mapping, Unmapping, Missed, Masked, Unfetched}
 use Rattle.bus_hub.specs.Log.{Item, of_core, run_of, State, Runs, Rule, change, made_whole, reached}
 use Rattle.bus_hub.specs.Shares.{Begun, begun_of, own_begun, steps_of, open_after, made_by, open_from, made_from, moved_by}
 use Rattle.bus_hub.proofs.Logs.{Keeps}
@@ -84,6 +84,7 @@ module _ {S K P : Type 0}
     own_item set s c (Unmapping at answer) rule = record { open_is = refl; part_is = refl }
     own_item set s c (Missed at len) rule = record { open_is = refl; part_is = refl }
     own_item set s c (Masked at len) rule = record { open_is = refl; part_is = refl }
+    own_item set s c (Unfetched at len why) rule = record { open_is = refl; part_is = refl }
 
     closed_other : (s : State K) (c o : ℕ) → c ≢ o → (Q : Running → Type 0)
         (runs : Option Running) → Runs o Q runs
@@ -129,6 +130,7 @@ module _ {S K P : Type 0}
     }
     other_item set s c o (Missed at len) apart rule = record { open_is = refl; part_is = refl }
     other_item set s c o (Masked at len) apart rule = record { open_is = refl; part_is = refl }
+    other_item set s c o (Unfetched at len why) apart rule = record { open_is = refl; part_is = refl }
 
     -- one item, and then the others
     joined : (c : ℕ) (s mid last : State K) (did : Did) (share : List Did) (b : Bool)

@@ -8,7 +8,7 @@ use Rattle.nor_device.specs.Torn.{Torn}
 use Rattle.bus_hub.specs.declared.entry.Entry.{Entry}
 use Rattle.bus_hub.specs.declared.did.Running.{Running}
 use Rattle.bus_hub.specs.declared.did.Did.{Did}
-use Rattle.bus_hub.specs.declared.did.Did.TheVariants.{Opened, Closed, Broken, Fetched, Noted, Denied, Mapping, Unmapping, Missed, Masked}
+use Rattle.bus_hub.specs.declared.did.Did.TheVariants.{Opened, Closed, Broken, Fetched, Noted, Denied, Mapping, Unmapping, Missed, Masked, Unfetched}
 use Rattle.bus_hub.specs.Log.{Item, of_core, State, Runs, Rule, change, made_whole, reached}
 use Rattle.bus_hub.specs.Hub.{entries_of, bytes_of, needs, byte_needs, owed}
 use Rattle.bus_hub.proofs.Logs.{Keeps}
@@ -85,6 +85,7 @@ module _ {S K P : Type 0}
   spends set s c (Unmapping at answer) rule = omega arith
   spends set s c (Missed at len) rule = omega arith
   spends set s c (Masked at len) rule = omega arith
+  spends set s c (Unfetched at len why) rule = omega arith
 
   spends_bytes : (set : S) (s : State K) (c : ℕ) (did : Did) → Obeys set s c did
       → length (change after s c did).bytes ≡ length s.bytes + bytes_of did
@@ -100,6 +101,7 @@ module _ {S K P : Type 0}
   spends_bytes set s c (Unmapping at answer) rule = omega arith
   spends_bytes set s c (Missed at len) rule = omega arith
   spends_bytes set s c (Masked at len) rule = omega arith
+  spends_bytes set s c (Unfetched at len why) rule = omega arith
 
   -- what a log spends
   pub spent_log : (set : S) (s : State K) (log : List Item)

@@ -18,7 +18,7 @@ use Rattle.bus_hub.specs.declared.did.Did.TheVariants.{Opened, Closed, Broken, D
 use Rattle.bus_hub.specs.declared.did.Running.{Running}
 use Rattle.bus_hub.specs.declared.did.Base.{Base}
 use Rattle.bus_hub.specs.declared.entry.Act.TheVariants.{Close}
-use Rattle.bus_hub.specs.Log.{noted_by, off_by, Runs, with_one, made_whole, entry_of}
+use Rattle.bus_hub.specs.Log.{State, Rule, change, noted_by, off_by, Runs, with_one, made_whole, entry_of}
 use Rattle.bus_hub.specs.Hub.{Hub, Fits, Stands, PowerIs, record_of, state_of, step_of, core_of}
 use Rattle.bus_hub.specs.Told.{Asks, Starts, Polls, asked, started, polled, with_device, running_step, ended_step, after_poll, number_of, held}
 use Rattle.bus_hub.proofs.Adds.{adds, still}
@@ -78,18 +78,21 @@ module _ {D S K P : Type 0}
   abbrev Starting : D → D → Result (Unit {0}) NorFault → Type 0
   Starting = Starts bytes off steps faults setting may_refuse must_refuse
 
-  -- a refused read or start is a mark
-  pub denied : (old : Hub D K) (dev : D) (c : ℕ) (why : NorFault) → c < 2 → old.running ≡ None
+  -- what the device refused is a mark
+  pub refused : (old : Hub D K) (dev : D) (c : ℕ) (why : NorFault) (did : Did) → c < 2
       → bytes dev ≡ bytes old.dev → steps dev ≡ steps old.dev → setting dev ≡ setting old.dev
-      → may_refuse (setting old.dev) (steps old.dev) why
       → HasCause {T = Unit {0}} (faults old.dev) (faults dev) (off dev) (Err why)
-      → GoesOn StandsBy Fits old (with_device old dev) c (Denied why ∷ [])
-  denied old dev c why small idle told count set may cause =
+      → ((flash : List ℕ) (noted : ℕ) (is_off : Bool) → bytes old.dev ≡ Some flash
+      → Rule may_end may_tear may_refuse must_refuse part grants after (setting old.dev)
+      (state_of old flash (steps old.dev) noted is_off) c did)
+      → ((s : State K) → change after s c did
+      ≡ record s { noted = noted_by why s.noted; is_off = off_by why })
+      → GoesOn StandsBy Fits old (with_device old dev) c (did ∷ [])
+  refused old dev c why did small told count set cause rule changes =
       adds bytes off steps faults setting may_end may_tear may_refuse must_refuse
       part grants after good
-      old (with_device old dev) c (Denied why) small (λ flash noted is_off told_flash counted
-      power. record {
-        rule = (idle, may);
+      old (with_device old dev) c did small (λ flash noted is_off told_flash counted power. record {
+        rule = rule flash noted is_off told_flash;
         flash_after = flash;
         told = told ∙ told_flash;
         noted_after = noted_by why noted;
@@ -100,10 +103,20 @@ module _ {D S K P : Type 0}
         setting_same = set;
         left_room = refl;
         right_room = refl;
-        leads = ap (λ (n : ℕ). state_of (with_device old dev) flash n (noted_by why noted)
-            (off_by why))
-            (sym count);
+        leads = changes (state_of old flash (steps old.dev) noted is_off)
+            ∙ ap (λ (n : ℕ). state_of (with_device old dev) flash n (noted_by why noted)
+            (off_by why)) (sym count);
       })
+
+  -- so is a refused read or start
+  pub denied : (old : Hub D K) (dev : D) (c : ℕ) (why : NorFault) → c < 2 → old.running ≡ None
+      → bytes dev ≡ bytes old.dev → steps dev ≡ steps old.dev → setting dev ≡ setting old.dev
+      → may_refuse (setting old.dev) (steps old.dev) why
+      → HasCause {T = Unit {0}} (faults old.dev) (faults dev) (off dev) (Err why)
+      → GoesOn StandsBy Fits old (with_device old dev) c (Denied why ∷ [])
+  denied old dev c why small idle told count set may cause =
+      refused old dev c why (Denied why) small told count set cause
+      (λ flash noted is_off told_flash. (idle, may)) (λ s. refl)
 
   -- the begin of a step
   pub begins : (old new : Hub D K) (c k : ℕ) (regs : Regs) (step : Step)

@@ -8,7 +8,7 @@ use Rattle.nor_device.specs.Torn.{Torn}
 use Rattle.nor_device.proofs.FlashLaws.{length_applied}
 use Rattle.bus_hub.specs.declared.did.Running.{Running}
 use Rattle.bus_hub.specs.declared.did.Did.{Did}
-use Rattle.bus_hub.specs.declared.did.Did.TheVariants.{Opened, Closed, Broken, Fetched, Noted, Denied, Mapping, Unmapping, Missed, Masked}
+use Rattle.bus_hub.specs.declared.did.Did.TheVariants.{Opened, Closed, Broken, Fetched, Noted, Denied, Mapping, Unmapping, Missed, Masked, Unfetched}
 use Rattle.bus_hub.specs.declared.did.Base.{Base}
 use Rattle.bus_hub.specs.Log.{Item, State, Runs, Rule, change, made_whole, reached}
 use Rattle.bus_hub.specs.Hub.{Hub, Stands, PowerIs, begun}
@@ -46,6 +46,7 @@ module _ {K : Type 0} (after : K → ℕ → Step → K) where
   follows s c (Unmapping at answer) = record { open_is = refl; off_is = refl; count_is = refl }
   follows s c (Missed at len) = record { open_is = refl; off_is = refl; count_is = refl }
   follows s c (Masked at len) = record { open_is = refl; off_is = refl; count_is = refl }
+  follows s c (Unfetched at len why) = record { open_is = refl; off_is = refl; count_is = refl }
 
   -- a log
   pub open_log : (s : State K) (log : List Item)
@@ -103,6 +104,7 @@ module _ {S K P : Type 0}
   still_item set s c (Unmapping at answer) rule idle stops = (tt, idle, refl)
   still_item set s c (Missed at len) rule idle stops = (tt, idle, refl)
   still_item set s c (Masked at len) rule idle stops = (tt, idle, refl)
+  still_item set s c (Unfetched at len why) rule idle stops = (tt, idle, refl)
 
   pub still_log : (set : S) (s : State K) (log : List Item)
       → Keeps may_end may_tear may_refuse must_refuse part grants after set s log
@@ -159,6 +161,7 @@ module _ {S K P : Type 0}
   length_item set s c (Unmapping at answer) rule = refl
   length_item set s c (Missed at len) rule = refl
   length_item set s c (Masked at len) rule = refl
+  length_item set s c (Unfetched at len why) rule = refl
 
   pub length_log : (set : S) (s : State K) (log : List Item)
       → Keeps may_end may_tear may_refuse must_refuse part grants after set s log

@@ -10,7 +10,7 @@ use Rattle.mmu_map.specs.Map.{Map, IsWhole}
 use Rattle.bus_hub.specs.declared.journal.Room.{Room}
 use Rattle.bus_hub.specs.declared.did.Running.{Running}
 use Rattle.bus_hub.specs.declared.did.Did.{Did}
-use Rattle.bus_hub.specs.declared.did.Did.TheVariants.{Opened, Closed, Broken, Fetched, Noted, Denied, Mapping, Unmapping, Missed, Masked}
+use Rattle.bus_hub.specs.declared.did.Did.TheVariants.{Opened, Closed, Broken, Fetched, Noted, Denied, Mapping, Unmapping, Missed, Masked, Unfetched}
 use Rattle.bus_hub.specs.declared.did.Base.{Base}
 use Rattle.bus_hub.specs.declared.entry.Act.{Act}
 use Rattle.bus_hub.specs.Room.{Kept, with_entry}
@@ -109,6 +109,7 @@ entries_of (Mapping flash_page n space answer) = 0
 entries_of (Unmapping at answer) = 0
 entries_of (Missed at len) = 0
 entries_of (Masked at len) = 0
+entries_of (Unfetched at len why) = 0
 
 -- how many bytes it needs
 abbrev pub bytes_of : Did → ℕ
@@ -122,6 +123,7 @@ bytes_of (Mapping flash_page n space answer) = 0
 bytes_of (Unmapping at answer) = 0
 bytes_of (Missed at len) = 0
 bytes_of (Masked at len) = 0
+bytes_of (Unfetched at len why) = 0
 
 -- the entries that a share needs
 abbrev pub needs : List Did → ℕ

@@ -16,7 +16,7 @@ use Rattle.bus_hub.specs.declared.entry.Act.TheVariants.{Open, Close, Fetch, Set
 use Rattle.bus_hub.specs.declared.entry.Entry.{Entry}
 use Rattle.bus_hub.specs.declared.did.Running.{Running}
 use Rattle.bus_hub.specs.declared.did.Did.{Did}
-use Rattle.bus_hub.specs.declared.did.Did.TheVariants.{Opened, Closed, Broken, Fetched, Noted, Denied, Mapping, Unmapping, Missed, Masked}
+use Rattle.bus_hub.specs.declared.did.Did.TheVariants.{Opened, Closed, Broken, Fetched, Noted, Denied, Mapping, Unmapping, Missed, Masked, Unfetched}
 use Rattle.bus_hub.specs.Fetch.{IsReachable, IsUnmapped, IsRead}
 
 -- one item of the log: what a core did
@@ -134,6 +134,7 @@ module _ {K : Type 0} (after : K → ℕ → Step → K) where
   change s c (Unmapping at answer) = record s { map = after_unmap s.map at answer }
   change s c (Missed at len) = s
   change s c (Masked at len) = s
+  change s c (Unfetched at len why) = record s { noted = noted_by why s.noted; is_off = off_by why }
 
   -- the state after all items of a log
   abbrev pub reached : State K → List Item → State K
@@ -172,6 +173,9 @@ module _ {S K P : Type 0}
   Rule set s c (Unmapping at answer) = (s.running ≡ None) × IsUnmapAnswer s.map at answer
   Rule set s c (Missed at len) = (s.running ≡ None) × IsUnmapped s.map (length s.flash) at len
   Rule set s c (Masked at len) = (s.running ≡ None) × IsReachable s.map (length s.flash) at len
+  -- no step is open, the range is mapped, and the device may refuse
+  Rule set s c (Unfetched at len why) =
+      (s.running ≡ None) × may_refuse set s.steps why × IsReachable s.map (length s.flash) at len
 
   -- each item is of core 0 or 1 and keeps its rule when its turn comes
   abbrev pub Ruled : S → State K → List Item → Type 0

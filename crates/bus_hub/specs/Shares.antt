@@ -7,7 +7,7 @@ use Rattle.nor_device.specs.Nor.{one_more}
 use Rattle.mmu_map.specs.Map.{Map, after_map, after_unmap}
 use Rattle.bus_hub.specs.declared.did.Running.{Running}
 use Rattle.bus_hub.specs.declared.did.Did.{Did}
-use Rattle.bus_hub.specs.declared.did.Did.TheVariants.{Opened, Closed, Broken, Fetched, Noted, Denied, Mapping, Unmapping, Missed, Masked}
+use Rattle.bus_hub.specs.declared.did.Did.TheVariants.{Opened, Closed, Broken, Fetched, Noted, Denied, Mapping, Unmapping, Missed, Masked, Unfetched}
 use Rattle.bus_hub.specs.Fetch.{IsRead}
 use Rattle.bus_hub.specs.Log.{Item, item, off_by}
 
@@ -43,6 +43,7 @@ open_after o (Mapping flash_page n space answer) = o
 open_after o (Unmapping at answer) = o
 open_after o (Missed at len) = o
 open_after o (Masked at len) = o
+open_after o (Unfetched at len why) = o
 
 -- the steps that an item ends whole
 abbrev pub made_by : Option Begun → Did → List Step
@@ -56,6 +57,7 @@ made_by o (Mapping flash_page n space answer) = []
 made_by o (Unmapping at answer) = []
 made_by o (Missed at len) = []
 made_by o (Masked at len) = []
+made_by o (Unfetched at len why) = []
 
 -- the step that is open after a share
 abbrev pub open_from : Option Begun → List Did → Option Begun
@@ -94,6 +96,7 @@ AreUnbroken (Mapping flash_page n space answer ∷ share) = AreUnbroken share
 AreUnbroken (Unmapping at answer ∷ share) = AreUnbroken share
 AreUnbroken (Missed at len ∷ share) = AreUnbroken share
 AreUnbroken (Masked at len ∷ share) = AreUnbroken share
+AreUnbroken (Unfetched at len why ∷ share) = AreUnbroken share
 
 -- the map after an item
 abbrev pub map_after_item : Map → Did → Map
@@ -107,6 +110,7 @@ map_after_item m (Mapping flash_page n space answer) = after_map m flash_page n 
 map_after_item m (Unmapping at answer) = after_unmap m at answer
 map_after_item m (Missed at len) = m
 map_after_item m (Masked at len) = m
+map_after_item m (Unfetched at len why) = m
 
 -- the map after all of them
 abbrev pub map_after_all : Map → List Did → Map
@@ -133,6 +137,7 @@ off_after off (Mapping flash_page n space answer) = off
 off_after off (Unmapping at answer) = off
 off_after off (Missed at len) = off
 off_after off (Masked at len) = off
+off_after off (Unfetched at len why) = off_by why
 
 -- the same after all of them
 abbrev pub off_after_all : Bool → List Did → Bool
@@ -151,6 +156,7 @@ count_after n (Mapping flash_page m space answer) = n
 count_after n (Unmapping at answer) = n
 count_after n (Missed at len) = n
 count_after n (Masked at len) = n
+count_after n (Unfetched at len why) = n
 
 -- the same after all of them
 abbrev pub count_after_all : ℕ → List Did → ℕ
@@ -169,6 +175,7 @@ IsStill (Mapping flash_page n space answer) = Unit {0}
 IsStill (Unmapping at answer) = Unit {0}
 IsStill (Missed at len) = Unit {0}
 IsStill (Masked at len) = Unit {0}
+IsStill (Unfetched at len why) = Unit {0}
 
 -- no item does
 abbrev pub AreStill : List Did → Type 0

@@ -13,7 +13,7 @@ use Rattle.bus_hub.specs.declared.entry.Act.TheVariants.{Close, Fetch}
 use Rattle.bus_hub.specs.declared.did.Running.{Running}
 use Rattle.bus_hub.specs.declared.did.Did.{Did}
 use Rattle.bus_hub.specs.declared.did.Base.{Base}
-use Rattle.bus_hub.specs.declared.did.Did.TheVariants.{Opened, Closed, Broken, Fetched, Denied, Missed, Masked}
+use Rattle.bus_hub.specs.declared.did.Did.TheVariants.{Opened, Closed, Broken, Fetched, Denied, Missed, Masked, Unfetched}
 use Rattle.bus_hub.specs.Room.{Kept, with_entry, with_bytes}
 use Rattle.mmu_map.specs.Map.{Map, translated}
 use Rattle.bus_hub.specs.declared.reads.FetchNo.{FetchNo}
@@ -127,8 +127,8 @@ abbrev pub fetch_items : ℕ → Regs → ℕ → ℕ → List ℕ → Result (U
 fetch_items k regs at len added (Ok _) = Fetched k regs at added ∷ []
 fetch_items k regs at len added (Err refusals.Unmapped) = Missed at len ∷ []
 fetch_items k regs at len added (Err refusals.Masked) = Masked at len ∷ []
-fetch_items k regs at len added (Err refusals.Off) = Denied whys.Off ∷ []
-fetch_items k regs at len added (Err refusals.Failed) = Denied whys.Failed ∷ []
+fetch_items k regs at len added (Err refusals.Off) = Unfetched at len whys.Off ∷ []
+fetch_items k regs at len added (Err refusals.Failed) = Unfetched at len whys.Failed ∷ []
 
 -- the bytes that were added to a journal
 abbrev pub added : Kept → Kept → List ℕ

@@ -75,6 +75,12 @@ pub enum Did {
         at: u32,
         len: u32,
     },
+    /// A mark: a fetch came to the device, which refused.
+    Unfetched {
+        at: u32,
+        len: u32,
+        why: NorFault,
+    },
 }
 
 /// What is fixed when the bus is made: flash, pages, duty, the rooms of both cores, and of the

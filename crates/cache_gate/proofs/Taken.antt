@@ -17,7 +17,7 @@ use Rattle.park_words.specs.Rule.{StandsBy}
 use Rattle.park_words.specs.Told.{Work, IsBeforeQuiet, HasTaken, HasGiven, Known, Gives, event_alone, items_alone}
 use Rattle.park_words.proofs.Giving.{gives}
 use Rattle.bus_hub.specs.declared.did.Did.{Did}
-use Rattle.bus_hub.specs.declared.did.Did.TheVariants.{Opened, Closed, Broken, Fetched, Noted, Denied, Missed, Masked}
+use Rattle.bus_hub.specs.declared.did.Did.TheVariants.{Opened, Closed, Broken, Fetched, Noted, Denied, Missed, Masked, Unfetched}
 use Rattle.nor_device.specs.declared.step.Step.{Step}
 use Rattle.nor_device.specs.declared.nor.Ready.{Ready}
 use Rattle.nor_device.specs.declared.nor.Ready.TheVariants as answers
@@ -401,13 +401,13 @@ module _ {D S K : Type 0} (stands : Hub D K → Base S K → List Did → List D
                 (ap (λ (h : Hub D K). h.right) f.2) (ap (λ (h : Hub D K). h.running) f.2) on
                 (fits_same t.view.base t.view.core t.view.share (Masked at len ∷ []) fit refl refl)
             fetches (Err refusals.Off) runs f on room =
-                keeps_cores (Denied whys.Off ∷ []) (ap (λ (h : Hub D K). h.left) f.is)
+                keeps_cores (Unfetched at len whys.Off ∷ []) (ap (λ (h : Hub D K). h.left) f.is)
                 (ap (λ (h : Hub D K). h.right) f.is) (ap (λ (h : Hub D K). h.running) f.is) on
-                (fits_same t.view.base t.view.core t.view.share (Denied whys.Off ∷ []) fit refl refl)
+                (fits_same t.view.base t.view.core t.view.share (Unfetched at len whys.Off ∷ []) fit refl refl)
             fetches (Err refusals.Failed) runs f on room =
-                keeps_cores (Denied whys.Failed ∷ []) (ap (λ (h : Hub D K). h.left) f.is)
+                keeps_cores (Unfetched at len whys.Failed ∷ []) (ap (λ (h : Hub D K). h.left) f.is)
                 (ap (λ (h : Hub D K). h.right) f.is) (ap (λ (h : Hub D K). h.running) f.is) on
-                (fits_same t.view.base t.view.core t.view.share (Denied whys.Failed ∷ []) fit refl refl)
+                (fits_same t.view.base t.view.core t.view.share (Unfetched at len whys.Failed ∷ []) fit refl refl)
 
         module _ (bytes : D → Option (List ℕ)) (k : ℕ) (r0 : Record) (own : r0 ≡ t.view.registers)
           where

@@ -11,7 +11,7 @@ use Rattle.park_words.proofs.Stories.{own_both, mine_own, ran}
 use Rattle.core_state.specs.declared.registers.Regs.{Regs}
 use Rattle.nor_device.specs.declared.nor.NorFault.{NorFault}
 use Rattle.bus_hub.specs.declared.did.Did.{Did}
-use Rattle.bus_hub.specs.declared.did.Did.TheVariants.{Opened, Closed, Broken, Fetched, Noted, Denied, Mapping, Unmapping, Missed, Masked}
+use Rattle.bus_hub.specs.declared.did.Did.TheVariants.{Opened, Closed, Broken, Fetched, Noted, Denied, Mapping, Unmapping, Missed, Masked, Unfetched}
 use Rattle.bus_hub.specs.declared.entry.Act.{Act as Noting}
 use Rattle.bus_hub.specs.declared.entry.Act.TheVariants.{Open, Close, Fetch, Set, Mapped, Unmapped, Wrote, Refused}
 use Rattle.bus_hub.specs.Log.{IsNote}
@@ -236,6 +236,7 @@ work_again (Mapping flash_page n space answer) later = refl
 work_again (Unmapping at answer) later = refl
 work_again (Missed at len) later = refl
 work_again (Masked at len) later = refl
+work_again (Unfetched at len why) later = refl
 
 all_work : (items : List Did) → narrowed work_of (events_in items) ≡ events_in items
 all_work [] = refl

@@ -10,7 +10,7 @@ use Rattle.park_words.specs.declared.view.Entry.{Entry}
 use Rattle.park_words.specs.declared.view.View.{View}
 use Rattle.park_words.specs.Story.{done_by}
 use Rattle.bus_hub.specs.declared.did.Did.{Did}
-use Rattle.bus_hub.specs.declared.did.Did.TheVariants.{Opened, Closed, Broken, Fetched, Noted, Denied, Mapping, Unmapping, Missed, Masked}
+use Rattle.bus_hub.specs.declared.did.Did.TheVariants.{Opened, Closed, Broken, Fetched, Noted, Denied, Mapping, Unmapping, Missed, Masked, Unfetched}
 use Rattle.bus_hub.specs.declared.entry.Act.{Act as Noting}
 use Rattle.bus_hub.specs.declared.entry.Act.TheVariants.{Open, Close, Fetch, Set, Mapped, Unmapped, Wrote, Refused}
 use Rattle.bus_hub.specs.Fetch.{space_at}
@@ -150,6 +150,7 @@ event_of (Mapping flash_page n space answer) = None
 event_of (Unmapping at answer) = None
 event_of (Missed at len) = None
 event_of (Masked at len) = None
+event_of (Unfetched at len why) = None
 
 -- the events that a share is, in order
 abbrev pub events_in : List Did → List Kind

@@ -30,6 +30,7 @@ use Rattle.ota_session.proofs.StageLemmas.{image_is}
 use Rattle.power_cut.specs.declared.legs.LegEnd.{LegEnd}
 use Rattle.power_cut.specs.declared.legs.LegEnd.TheVariants.{Done, FirstByte}
 use Rattle.power_cut.specs.Update.{sealed_end, session_end, size_or_none, slot_size}
+use Rattle.duo_run.specs.Paced.{closed_ops, entry_ops}
 use Rattle.duo_run.specs.Driving.{HasWrittenAll, IsNotAllWritten, all_moves, closed_end, ended_as, seal_moves, unsealed_as, unwritten_as}
 
 -- ---- room and look behind moves that were made
@@ -146,6 +147,15 @@ module _ {S : Type 0} (probe : Option ℕ) (w : Writing (Base S Course)) where
         (run_then 0 reads entry r w.core v.core p x.ran
         (subst (λ (t : Target). HasRun 0 (entry_moves probe t.otadata t.next) r v.core p) x.target
         run))
+
+    closes_is : (image : List ℕ) → take 1 image ≡ 0xE9 ∷ [] → bad w.target.size image ≡ None
+        → 2 ≡ closed_ops w.target.size image
+    closes_is [] first none = absurd cc
+    closes_is (byte ∷ bytes) first none =
+        sym (ap (λ (found : Option BadImage). entry_ops found) none)
+
+    pub sealed_ops : 2 ≡ closed_ops w.target.size (image_of w.core.base)
+    sealed_ops = closes_is (image_of w.core.base) marked whole
 
     pub sealed_end_is : Done ≡ closed_end w.target.size (image_of w.core.base)
     sealed_end_is = end_is (image_of w.core.base) marked whole
@@ -414,3 +424,11 @@ module _ {S : Type 0} (layout : Places) (aim : Aim) (image : List ℕ) (probe : 
           → IfOk r (λ end. end ≡ session_end (slot_size layout aim.slot) image)
       session_ends (Ok end) is = is ∙ ends_so
       session_ends (Err why) is = tt
+
+      -- what is counted behind the last byte
+      pub session_closes : closed_ops z.target.size (image_of z.core.base)
+          ≡ closed_ops (slot_size layout aim.slot) image
+      session_closes =
+          let size : z.target.size ≡ slot_size layout aim.slot =
+          ap (λ (t : Target). t.size) target_same ∙ sym size_here in
+          λ i. closed_ops (size i) (image_same i)

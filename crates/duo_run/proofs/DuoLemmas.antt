@@ -1,5 +1,5 @@
 -- A session and a confirmation as legs of both cores.
-use Rattle.std.proofs.Common.{◌≡◌, ◌≢◌, ℕ, List, Option, Some, None, IfSome, IsSome, IsOk, IfOk, Result, Ok, Err, refl, sym, ◌∙◌, subst}
+use Rattle.std.proofs.Common.{◌≡◌, ◌≢◌, ℕ, List, length, Option, Some, None, IfSome, IsSome, IsOk, IfOk, Result, Ok, Err, refl, sym, ◌∙◌, subst}
 use Rattle.nor_device.specs.Ram.{Ram}
 use Rattle.crash_images.specs.Cut.{CutDevice}
 use Rattle.partition_table.specs.declared.app.App.{App}
@@ -21,6 +21,8 @@ use Rattle.power_cut.specs.declared.legs.Ran.{Ran}
 use Rattle.power_cut.specs.Update.{image_of}
 use Rattle.duo_run.specs.Both.{IsDuoLeg, MayBegin}
 use Rattle.duo_run.specs.Legs.{IsDuoConfirm, IsDuoSession, MayAffirm, MayInstall, ShowsApp}
+use Rattle.flash_ops.specs.declared.pace.Point.{Point}
+use Rattle.duo_run.specs.Paced.{IsToldLeg, session_ops}
 use Rattle.duo_run.specs.Pages.{application_pages}
 use Rattle.duo_run.proofs.PlaceLemmas.{app_in_place, row_there}
 
@@ -252,3 +254,29 @@ module _ (rows : List Row) (script : List Action) (driver : ℕ) (here : Places)
       at.info.segments.items dev ran) (λ ran. (layout : Places) → layout_of rows ≡ Ok layout
       → IsDuoConfirm rows script driver layout at write dev ran) answer b d
       (λ ran l. affirmed row ran there l) ok
+
+-- ---- what the pace was told
+
+-- of a leg by the script and the pace that were handed on
+pub told_as : {P E : Type 0} (told : P → Point → Type 0) (ops : ℕ) (script handed : List Action)
+    (pace own : P) (answer : Result Ran E) → script ≡ handed → pace ≡ own
+    → IfOk answer (IsToldLeg (told pace) ops (length script))
+    → IfOk answer (IsToldLeg (told own) ops (length handed))
+told_as told ops script handed pace own (Ok ran) same is leg =
+    subst (λ z. IsToldLeg (told z) ops (length handed) ran) is
+    (subst (λ (s : List Action). IsToldLeg (told pace) ops (length s) ran) same leg)
+told_as told ops script handed pace own (Err why) same is leg = tt
+
+-- and of a session, by whichever layout of the table
+pub installed_told : {P E : Type 0} (told : P → Point → Type 0) (rows : List Row) (here : Places)
+    (aim : Aim) (image : List ℕ) → layout_of rows ≡ Ok here → (script handed : List Action)
+    (pace own : P) (answer : Result Ran E) → script ≡ handed → pace ≡ own
+    → IfOk answer (IsToldLeg (told pace) (session_ops here aim image) (length script))
+    → IfOk answer (λ ran. (layout : Places) → layout_of rows ≡ Ok layout
+    → IsToldLeg (told own) (session_ops layout aim image) (length handed) ran)
+installed_told {P} {E} told rows here aim image laid script handed pace own (Ok ran) same is leg =
+    λ layout there.
+    subst (λ (p : Places). IsToldLeg (told own) (session_ops p aim image) (length handed) ran)
+    (same_layout rows here layout laid there)
+    (told_as {E = E} told (session_ops here aim image) script handed pace own (Ok ran) same is leg)
+installed_told {P} {E} told rows here aim image laid script handed pace own (Err why) same is leg = tt

@@ -8,7 +8,7 @@ use Rattle.crash_images.specs.declared.cut.CutSetting.{CutSetting}
 use Rattle.crash_images.specs.Cut.{CutDevice}
 use Rattle.mmu_map.specs.Map.{Map}
 use Rattle.bus_hub.specs.declared.did.Did.{Did}
-use Rattle.bus_hub.specs.declared.did.Did.TheVariants.{Opened, Closed, Broken, Fetched, Noted, Denied, Mapping, Unmapping, Missed, Masked}
+use Rattle.bus_hub.specs.declared.did.Did.TheVariants.{Opened, Closed, Broken, Fetched, Noted, Denied, Mapping, Unmapping, Missed, Masked, Unfetched}
 use Rattle.bus_hub.specs.declared.did.Running.{Running}
 use Rattle.bus_hub.specs.declared.duty.AnyDuty.{AnyDuty}
 use Rattle.bus_hub.specs.Hub.{begun}
@@ -42,6 +42,7 @@ module _ {K : Type 0} (after : K → ℕ → Step → K) where
   item_few s c (Unmapping at answer) = omega arith
   item_few s c (Missed at len) = omega arith
   item_few s c (Masked at len) = omega arith
+  item_few s c (Unfetched at len why) = omega arith
 
   log_few : (s : State K) (log : List Item)
       → (reached after s log).steps ≤ s.steps + opened_in (all_of log)

@@ -19,6 +19,7 @@ mod NumberLemmas
 mod DuoLemmas
 mod DrivingLemmas
 mod WriteAllLemmas
+mod PacedLemmas
 pub mod TakenLemmas
 pub mod LegCountLemmas
 pub mod TakenLegs

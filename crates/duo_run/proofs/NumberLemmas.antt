@@ -7,7 +7,7 @@ use Rattle.crash_images.specs.declared.cut.CutSetting.{CutSetting}
 use Rattle.crash_images.specs.Cut.{CutDevice}
 use Rattle.bus_hub.specs.declared.did.Base.{Base}
 use Rattle.bus_hub.specs.declared.did.Did.{Did}
-use Rattle.bus_hub.specs.declared.did.Did.TheVariants.{Opened, Closed, Broken, Fetched, Noted, Denied, Mapping, Unmapping, Missed, Masked}
+use Rattle.bus_hub.specs.declared.did.Did.TheVariants.{Opened, Closed, Broken, Fetched, Noted, Denied, Mapping, Unmapping, Missed, Masked, Unfetched}
 use Rattle.bus_hub.specs.declared.did.Running.{Running}
 use Rattle.bus_hub.specs.Hub.{Hub, begun}
 use Rattle.bus_hub.specs.Log.{Item, State, change, made_whole, reached}
@@ -43,6 +43,7 @@ module _ {K : Type 0} (after : K → ℕ → Step → K) (before : ℕ) where
   grown_item s c (Unmapping at answer) g = record { least = g.least; most = g.most }
   grown_item s c (Missed at len) g = g
   grown_item s c (Masked at len) g = g
+  grown_item s c (Unfetched at len why) g = record { least = g.least; most = g.most }
 
   grown_log : (s : State K) (log : List Item) → Grown s → Grown (reached after s log)
   grown_log s [] g = g

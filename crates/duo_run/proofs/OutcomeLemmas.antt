@@ -1,5 +1,5 @@
 -- A leg of both cores, from what the cores did and the device that came back.
-use Rattle.std.proofs.Common.{◌≡◌, ◌⊎◌, inl, inr, ℕ, zero, suc, ◌-◌, ◌<◌, Bool, true, false, List, [], ◌∷◌, ◌++◌, length, Option, Some, None, IfOk, Result, Ok, Err, refl, sym, ap, ◌∙◌, subst, arith, append-nil}
+use Rattle.std.proofs.Common.{◌≡◌, ◌⊎◌, inl, inr, ℕ, zero, suc, ◌-◌, ◌<◌, Bool, true, false, List, [], ◌∷◌, ◌++◌, length, Option, Some, None, IfOk, IsOk, Result, Ok, Err, refl, sym, ap, ◌∙◌, subst, arith, append-nil}
 use Rattle.std.specs.Prelude.{◌==◌, if◌then◌else◌}
 use Rattle.core_state.specs.declared.registers.Regs.{Regs}
 use Rattle.core_state.specs.Registers.{reset}
@@ -28,6 +28,7 @@ use Rattle.cache_gate.specs.Own.{IsFirst, OnBase, Own}
 use Rattle.core_script.specs.declared.action.Action.{Action}
 use Rattle.flash_steps.specs.Parts.{open_addresses}
 use Rattle.flash_ops.specs.declared.refusal.StepNo.{StepNo}
+use Rattle.flash_ops.specs.declared.refusal.StepNo.TheVariants as steps
 use Rattle.flash_ops.specs.Moves.{Move, Ran as HasMoved}
 use Rattle.flash_ops.specs.Told.{fault_of}
 use Rattle.flash_ops.proofs.Runs.{made_follows}
@@ -257,17 +258,23 @@ module _ (rows : List Row) (script : List Action) (driver : ℕ) (layout : Place
     own_share (suc zero) small = stands.stood.right_is
     own_share (suc (suc c)) small = absurd (omega arith)
 
-    -- a refusal in the driver's share comes of a chosen step
+    -- a refusal in a share comes of a chosen step
+    refusal_bad : (c : ℕ) → c < 2 → HasRefusal (share_of c left.share right.share)
+        → IsBad dev.cut dev.fail last
+    refusal_bad c small r =
+        subst (λ (n : ℕ). IsBad dev.cut dev.fail n) closed.same.steps
+        (share_refused part_of Grants course_after IsGood closed.bus base left.share right.share
+        stands c (share_of c left.share right.share) r.front r.back r.did (own_share c small) r.is
+        r.refusal)
+
+    -- so does one in the driver's share
     refused : (why : NorFault)
         → DriverShare layout purpose (probe_in notes) (Err why)
         (share_of driver left.share right.share)
         → IsBad dev.cut dev.fail last
     refused why share =
-        let r = stops_refused 0 reset why moves (share_of driver left.share right.share) share in
-        subst (λ (n : ℕ). IsBad dev.cut dev.fail n) closed.same.steps
-        (share_refused part_of Grants course_after IsGood closed.bus base left.share right.share
-        stands driver (share_of driver left.share right.share) r.front r.back r.did
-        (own_share driver two) r.is r.refusal)
+        refusal_bad driver two
+        (stops_refused 0 reset why moves (share_of driver left.share right.share) share)
 
     long : length ran.dev.inner.bytes ≡ length dev.inner.bytes
     long =
@@ -434,6 +441,33 @@ module _ (rows : List Row) (script : List Action) (driver : ℕ) (layout : Place
         (sym (append-nil (steps_for layout purpose))) (made_all is)
         (ap (λ (bytes : List ℕ). Some bytes) closed.same.bytes)
 
+    -- both cores came to their ends where nothing broke off
+    both_ended : IsWholeEnd ran.leg.end → IsOk driven × IsOk worked
+    both_ended is = (drove driven shares.drove, worked_too worked shares.works)
+      where
+        drove : (r : Result LegEnd StepNo)
+            → DriverShare layout purpose (probe_in notes) (ended_as r)
+            (share_of driver left.share right.share) → IsOk r
+        drove (Ok end) share = refl
+        drove (Err why) share =
+            absurd (not_bad dev last (unbroken is) (refused (cause_of why) share))
+
+        stopped : (why : NorFault)
+            → WorkerShare rows reset script (Err why) (share_of (1 - driver) left.share right.share)
+            → ⊥
+        stopped why share =
+            not_bad dev last (unbroken is)
+            (refusal_bad (1 - driver) (omega arith)
+            (stopped_refused rows why 1 reset script (share_of (1 - driver) left.share right.share)
+            share))
+
+        worked_too : (r : Result (Unit {0}) StepNo)
+            → WorkerShare rows reset script (fault_of r)
+            (share_of (1 - driver) left.share right.share) → IsOk r
+        worked_too (Ok u) share = refl
+        worked_too (Err steps.Device) share = absurd (stopped _ share)
+        worked_too (Err steps.Cut) share = absurd (stopped _ share)
+
     is_leg : IsDuoLeg rows script driver layout purpose offset notes dev ran
     is_leg = record {
       ran_is = ran_is;
@@ -531,6 +565,17 @@ module _ (rows : List Row) (script : List Action) (driver : ℕ) (layout : Place
           → IsDuoLeg rows script driver layout purpose offset notes dev ran
       outcome before whole ran is ends closed parked =
           is_leg left right driven worked ran
+          (subst (λ (z : ℕ × LegEnd). IsClosed z.0 z.1 left right ran) (λ i. (is i, ends i)) closed)
+          parked
+          (shares_at driver refl two words first second left right driven worked one_here other_here
+          run)
+
+      -- both cores came to their ends where nothing broke off
+      pub both_ends : (before : ℕ) (whole : LegEnd) (ran : Ran) → before ≡ dev.steps
+          → whole ≡ whole_by driven → IsClosed before whole left right ran
+          → IsParkedRun left.share right.share → IsWholeEnd ran.leg.end → IsOk driven × IsOk worked
+      both_ends before whole ran is ends closed parked =
+          both_ended left right driven worked ran
           (subst (λ (z : ℕ × LegEnd). IsClosed z.0 z.1 left right ran) (λ i. (is i, ends i)) closed)
           parked
           (shares_at driver refl two words first second left right driven worked one_here other_here

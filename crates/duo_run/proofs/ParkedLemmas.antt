@@ -20,7 +20,7 @@ use Rattle.park_words.specs.declared.view.Entry.{Entry}
 use Rattle.park_words.specs.Story.{CanBeMade, done_by, entry, event_of as event_before, events_of, machine_at, turn_at}
 use Rattle.park_words.proofs.Stories.{own_both, stories_are_safe}
 use Rattle.bus_hub.specs.declared.did.Did.{Did}
-use Rattle.bus_hub.specs.declared.did.Did.TheVariants.{Broken, Closed, Denied, Fetched, Mapping, Masked, Missed, Noted, Opened, Unmapping}
+use Rattle.bus_hub.specs.declared.did.Did.TheVariants.{Broken, Closed, Denied, Fetched, Mapping, Masked, Unfetched, Missed, Noted, Opened, Unmapping}
 use Rattle.bus_hub.specs.declared.entry.Act.TheVariants as acts
 use Rattle.cache_gate.specs.Own.{Own, RanBoth}
 use Rattle.cache_gate.specs.Works.{act_before, before, event_of, events_in, work_of, works_of}
@@ -107,6 +107,7 @@ share_by_work (Mapping page n space answer ∷ share) regs = share_by_work share
 share_by_work (Unmapping at answer ∷ share) regs = share_by_work share regs
 share_by_work (Missed at len ∷ share) regs = share_by_work share regs
 share_by_work (Masked at len ∷ share) regs = share_by_work share regs
+share_by_work (Unfetched at len why ∷ share) regs = share_by_work share regs
 
 -- ---- a first part of a run, and of a share
 

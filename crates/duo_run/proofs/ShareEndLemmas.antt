@@ -11,7 +11,7 @@ use Rattle.flash_steps.specs.Parts.{part_erase_steps, part_write_steps}
 use Rattle.core_script.specs.declared.action.Action.{Action}
 use Rattle.core_script.specs.declared.action.Action.TheVariants.{Fetch, Mask, Irq, Map, Unmap, Write, Erase}
 use Rattle.bus_hub.specs.declared.did.Did.{Did}
-use Rattle.bus_hub.specs.declared.did.Did.TheVariants.{Opened, Closed, Broken, Fetched, Denied}
+use Rattle.bus_hub.specs.declared.did.Did.TheVariants.{Opened, Closed, Broken, Fetched, Denied, Unfetched}
 use Rattle.flash_ops.specs.Moves.{Ask, Look, Make, Move, Stops, makes}
 use Rattle.power_cut.specs.Refused.{IsRefusal}
 use Rattle.duo_run.specs.Worker.{BreaksOff, HasEnded, HasStopped, regs_after}
@@ -39,6 +39,11 @@ denied : (why : NorFault) (items : List Did) → items ≡ Denied why ∷ [] →
 denied why items is =
     record { front = []; did = Denied why; back = []; is = is; refusal = tt }
 
+unfetched : (at len : ℕ) (why : NorFault) (items : List Did) → items ≡ Unfetched at len why ∷ []
+    → HasRefusal items
+unfetched at len why items is =
+    record { front = []; did = Unfetched at len why; back = []; is = is; refusal = tt }
+
 pub stops_refused : (k : ℕ) (regs : Regs) (why : NorFault) (moves : List Move) (items : List Did)
     → Stops k regs why moves items → HasRefusal items
 stops_refused k regs why [] items s = absurd s
@@ -53,7 +58,7 @@ stops_refused k regs why (Make step ∷ moves) items (inr (inl (left, is))) = re
 stops_refused k regs why (Make step ∷ moves) items (inr (inr (rest, is, s))) =
     behind (Opened k masked step ∷ Closed k masked ∷ []) rest items is
     (stops_refused k regs why moves rest s)
-stops_refused k regs why (Look at ∷ moves) items (inl is) = denied why items is
+stops_refused k regs why (Look at ∷ moves) items (inl is) = unfetched at 4 why items is
 stops_refused k regs why (Look at ∷ moves) items (inr (bytes, rest, four, is, s)) =
     behind (Fetched k regs at bytes ∷ []) rest items is (stops_refused k regs why moves rest s)
 stops_refused k regs why (Ask ∷ moves) items (inl is) = denied why items is
@@ -66,7 +71,7 @@ broken k regs why (Err refused_so) steps items s = absurd s
 
 ended : (rows : List Row) (why : NorFault) (k : ℕ) (regs : Regs) (action : Action)
     (items : List Did) → HasEnded rows why k regs action items → HasRefusal items
-ended rows why k regs (Fetch at len) items e = denied why items e.is
+ended rows why k regs (Fetch at len) items e = unfetched at len why items e.is
 ended rows why k regs (Mask mask) items e = absurd e
 ended rows why k regs (Irq irq) items e = absurd e
 ended rows why k regs (Map space page n) items e = absurd e

@@ -17,8 +17,9 @@ use Rattle.ota_session.specs.declared.refusal.WriteNo.{WriteNo}
 use Rattle.ota_session.specs.declared.refusal.WriteNo.TheVariants as writes
 use Rattle.ota_session.specs.declared.target.Target.{Target}
 use Rattle.ota_session.specs.Course.{Course}
-use Rattle.ota_session.specs.SessionTold.{HasWritten, IsNotWritten, piece_moves, wrong_byte}
+use Rattle.ota_session.specs.SessionTold.{HasWritten, IsNotWritten, piece_moves, piece_periods, wrong_byte}
 use Rattle.ota_session.specs.Stages.{IsNextPiece, IsWriting, Writing, image_of}
+use Rattle.ota_session.proofs.CountLemmas.{piece_periods as one_piece}
 use Rattle.ota_session.proofs.StageLemmas.{slot}
 use Rattle.duo_run.specs.Driving.{HasWrittenAll, IsNotAllWritten}
 use Rattle.duo_run.proofs.DrivingLemmas.{look_rest, room_front, room_rest}
@@ -219,6 +220,30 @@ module _ {S : Type 0} (probe : Option ℕ) (image : List ℕ) (first : Writing (
         (subst (λ (ms : List Move). HasRoomFor w.core.base w.core.core w.core.share ms) cut_moves
         up.room))
 
+    -- it has one quiet period
+    one_period : piece_periods w piece ≡ 1
+    one_period =
+        let begins = aligned in
+        let paged = whole_sectors in
+        let place = target_at in
+        let some = next_piece.some in
+        let size : length piece ≡ length (take 4096 rest) = ap length cut.front in
+        let most = length-take 4096 rest in
+        one_piece (w.target.at + w.written) piece (omega arith) some (omega arith)
+
+    -- a wrong first byte is that of the image
+    wrong_is_first : (byte : ℕ) → wrong_byte w.written piece ≡ Some byte
+        → length rest ≡ length image
+    wrong_is_first byte is = elim up.begun [
+      | inl same ↦
+          let zero_is : w.written ≡ 0 = ap (λ (z : Writing (Base S Course)). z.written) same ∙ none
+          in
+          ap length (up.rest_is ∙ ap (λ (n : ℕ). drop n image) zero_is)
+      | inr later ↦
+          let refused_so : None ≡ Some byte = sym (wrong_later w.written piece later.0) ∙ is in
+          absurd cc
+    ]
+
     -- the first byte is not a wrong one
     right : wrong_byte w.written piece ≡ None → wrong_byte 0 image ≡ None
     right is = elim up.begun [
@@ -313,6 +338,13 @@ module _ {S : Type 0} (probe : Option ℕ) (image : List ℕ) (first : Writing (
     piece_refused writes.Device o x = (right x.0, stops _ o x.1)
     piece_refused writes.Cut o x = (right x.0, stops _ o x.1)
 
+  -- no more is left than the image has
+  pub up_within : (w : Writing (Base S Course)) (rest : List ℕ) → IsUpTo w rest
+      → length rest ≤ length image
+  up_within w rest up =
+      let e : length rest ≡ length (drop w.written image) = ap length up.rest_is in
+      let f = length-drop w.written image in omega arith
+
   -- all is written
   pub up_to_all : (w : Writing (Base S Course)) (rest : List ℕ) → IsUpTo w rest
       → first.written ≡ 0 → length rest ≡ 0 → HasWrittenAll probe image first w
@@ -364,3 +396,13 @@ module _ {S : Type 0} (probe : Option ℕ) (image : List ℕ) (first : Writing (
           → IsNotWritten probe piece w refused_so o → IsNotAllWritten probe image first refused_so o
       round_refused refused_so o x = piece_refused w rest piece later up none long cut refused_so o
           x
+
+      pub round_period : piece_periods w piece ≡ 1
+      round_period = one_period w rest piece later up none long cut
+
+      pub round_first : (refused_so : WriteNo) (o : Own (Base S Course) Did)
+          → IsNotWritten probe piece w refused_so o → (byte : ℕ)
+          → refused_so ≡ writes.FirstByte byte → length rest ≡ length image
+      round_first refused_so o x byte is =
+          wrong_is_first w rest piece later up none long cut byte
+          (subst (λ (z : WriteNo). IsNotWritten probe piece w z o) is x).0

@@ -7,5 +7,6 @@ pub mod Fresh
 pub mod Driving
 pub mod Jobs
 pub mod Parked
+pub mod Paced
 pub mod Both
 pub mod Legs

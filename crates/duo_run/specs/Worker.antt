@@ -18,7 +18,7 @@ use Rattle.bus_hub.specs.declared.entry.Act.TheVariants as acts
 use Rattle.bus_hub.specs.declared.entry.Why.{Why}
 use Rattle.bus_hub.specs.declared.entry.Why.TheVariants as whys
 use Rattle.bus_hub.specs.declared.did.Did.{Did}
-use Rattle.bus_hub.specs.declared.did.Did.TheVariants.{Opened, Closed, Broken, Fetched, Noted, Denied, Mapping, Unmapping, Missed, Masked}
+use Rattle.bus_hub.specs.declared.did.Did.TheVariants.{Opened, Closed, Broken, Fetched, Noted, Denied, Mapping, Unmapping, Missed, Masked, Unfetched}
 use Rattle.bus_hub.specs.Fetch.{IsServed}
 use Rattle.flash_ops.specs.Moves.{makes, Follows, Stops}
 
@@ -139,10 +139,12 @@ HasLeft rows k regs (Erase label offset len) items =
 
 -- ---- where the device refused
 
--- a fetch that the mask serves came to the device, which refused
-pub record IsFetchEnd (why : NorFault) (regs : Regs) (at : ℕ) (items : List Did) : Type 0 where
+-- a fetch that the mask serves came to the device, which refused: the mark names the range, which
+-- was mapped
+pub record IsFetchEnd (why : NorFault) (regs : Regs) (at len : ℕ) (items : List Did)
+    : Type 0 where
   pub served : IsServed regs.mask at
-  pub is : items ≡ Denied why ∷ []
+  pub is : items ≡ Unfetched at len why ∷ []
 
 -- a write or an erase of a partition that may be changed so came to the device: a first part of its
 -- steps was made, and the next one was not begun, or broken off
@@ -152,7 +154,7 @@ BreaksOff k regs why (Err refusal) steps items = ⊥
 
 -- the items of an action that came to the device, which refused: of a fetch, a write or an erase
 abbrev pub HasEnded : List Row → NorFault → ℕ → Regs → Action → List Did → Type 0
-HasEnded rows why k regs (Fetch at len) items = IsFetchEnd why regs at items
+HasEnded rows why k regs (Fetch at len) items = IsFetchEnd why regs at len items
 HasEnded rows why k regs (Mask mask) items = ⊥
 HasEnded rows why k regs (Irq irq) items = ⊥
 HasEnded rows why k regs (Map space page n) items = ⊥
@@ -231,6 +233,7 @@ regs_by_item regs (Mapping page n space answer) = regs
 regs_by_item regs (Unmapping at answer) = regs
 regs_by_item regs (Missed at len) = regs
 regs_by_item regs (Masked at len) = regs
+regs_by_item regs (Unfetched at len why) = regs
 
 -- the registers after a share: those of its last Set
 abbrev pub regs_by : Regs → List Did → Regs

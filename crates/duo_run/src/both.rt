@@ -1,6 +1,6 @@
 //! A leg: both cores in two threads, from the device to the device.
 
-ghost use Rattle.std.specs.Prelude.{◌≡◌, ◌+◌, ◌≤◌, ◌<◌, ◌^◌, None, IfOk};
+ghost use Rattle.std.specs.Prelude.{◌≡◌, ◌+◌, ◌≤◌, ◌<◌, ◌^◌, None, IfOk, length};
 ghost use Rattle.bus_hub.specs.declared.did.Base.{Base};
 ghost use Rattle.bus_hub.specs.Room.{room_in};
 ghost use Rattle.cache_gate.specs.Own.{IsFirst, OnBase};
@@ -11,6 +11,7 @@ ghost use Rattle.duo_run.specs.Works.{CanWork, HasWorked};
 ghost use Rattle.flash_ops.specs.Told.{fault_of};
 ghost use Rattle.duo_run.specs.Pages.{probe_in};
 ghost use Rattle.duo_run.specs.Parked.{IsParkedRun};
+ghost use Rattle.duo_run.specs.Paced.{IsToldLeg, TellsActs, TellsOps, ops_for};
 ghost use Rattle.duo_run.specs.Both.{CanRunBoth, HaveRun, IsClosed, IsDuoLeg, MayBegin, base_with, rooms_of, whole_by};
 
 use crate::job::{Job, duty_for, room_for, run_driver};
@@ -107,6 +108,10 @@ fn run_both<'w, 'a, R: Threads + Wait + Sync, P: Pace + Sync>(
     ensures driver { HasDriven layout.now (purpose_of job.now) probe result.0.1 driver.entry result.0.0 }
     ensures worker { HasWorked beside.now.table.now beside.now.script.now (fault_of result.1.1)
         worker.entry result.1.0 }
+    ensures driver_told { TellsOps (P.told beside.now.pace.now)
+        (ops_for layout.now (purpose_of job.now)) result.0.1 }
+    ensures worker_told { TellsActs (P.told beside.now.pace.now) (length beside.now.script.now)
+        result.1.1 }
 {
     let Beside {
         script,
@@ -142,9 +147,13 @@ fn run_cores<'a, R: Threads + Wait + Sync, P: Pace + Sync>(
     requires right { right.table ≡ gates.now }
     requires can { CanRunBoth driver layout.now (purpose_of job.now) info.now.segments.items
         beside.now.table.now beside.now.script.now left right }
-    ensures { HaveRun driver layout.now (purpose_of job.now) info.now.segments.items
+    ensures ran { HaveRun driver layout.now (purpose_of job.now) info.now.segments.items
         beside.now.table.now beside.now.script.now result.1.0 result.1.1 left.entry
         right.entry result.0.0 result.0.1 }
+    ensures driver_told { TellsOps (P.told beside.now.pace.now)
+        (ops_for layout.now (purpose_of job.now)) result.1.0 }
+    ensures worker_told { TellsActs (P.told beside.now.pace.now) (length beside.now.script.now)
+        result.1.1 }
 {
     let probe = probe_in(info);
     let left = gates.core(left);
@@ -206,6 +215,8 @@ pub(crate) fn leg<R: Threads + Wait + Sync, P: Pace + Sync>(
         info.now.segments.items dev }
     ensures leg { IfOk result (IsDuoLeg beside.now.table.now beside.now.script.now driver layout.now
         (purpose_of job.now) offset info.now.segments.items dev) }
+    ensures told { IfOk result (IsToldLeg (P.told beside.now.pace.now)
+        (ops_for layout.now (purpose_of job.now)) (length beside.now.script.now)) }
 {
     let before = dev.steps();
     let pages = application_pages(offset, info);

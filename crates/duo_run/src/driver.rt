@@ -1,13 +1,15 @@
 //! The core that drives an update: it installs an application, or confirms the one that runs.
 
-ghost use Rattle.std.specs.Prelude.{◌≡◌, ◌+◌, ◌≤◌, [], Ok, Err, IfOk, IfErr, length, take, drop};
+ghost use Rattle.std.specs.Prelude.{◌≡◌, ◌+◌, ◌≤◌, [], Ok, Err, IfOk, IfErr, MatchResult, length, take, drop};
 ghost use Rattle.bus_hub.specs.declared.did.Base.{Base};
 ghost use Rattle.flash_ops.specs.Asked.{CanLook, HasRoomFor};
 ghost use Rattle.flash_ops.specs.Moves.{HasRun, write_moves};
+ghost use Rattle.flash_ops.specs.Told.{ToldOf, counted};
 ghost use Rattle.ota_session.specs.Stages.{IsToConfirm, IsWriting, confirm_moves, entry_moves, image_of, session_moves};
 ghost use Rattle.power_cut.specs.declared.legs.LegEnd.TheVariants.{Done};
 ghost use Rattle.power_cut.specs.Update.{session_end, slot_size};
 ghost use Rattle.duo_run.specs.Driving.{HasWrittenAll, IsNotAllWritten, IsToInstall, all_moves, closed_end, ended_as, seal_moves, unsealed_as, unwritten_as};
+ghost use Rattle.duo_run.specs.Paced.{HasCountedNone, closed_ops, pieces_of, session_ops};
 
 use boot_run::Aim;
 use cache_gate::Core;
@@ -42,6 +44,9 @@ pub(crate) fn install<'w, 'a, R: Wait, D: Crash, P: Pace>(
         (ended_as result.1) core.entry result.0 }
     ensures end { IfOk result.1 (λ end.
         end ≡ session_end (slot_size layout.now aim.now.slot) image.now) }
+    ensures ops { IfOk result.1 (λ end.
+        beat.new.ops ≡ counted beat.old.ops (session_ops layout.now aim.now image.now)) }
+    ensures told { ToldOf (P.told beat.old.pace.now) beat.old.ops beat.new.ops }
 {
     match begin(rt, core, beat, layout, aim) {
         Err(back) => (back.core, Err(back.no)),
@@ -71,6 +76,10 @@ fn write_all<'w, 'a, R: Wait, D: Crash, P: Pace>(
         IsNotAllWritten beat.old.probe image.now ota.entry back.no back.core) }
     ensures probe { beat.new.probe ≡ beat.old.probe }
     ensures pace { beat.new.pace ≡ beat.old.pace }
+    ensures ops { MatchResult result
+        (λ _. beat.new.ops ≡ counted beat.old.ops (pieces_of (length image.now)))
+        (λ back. HasCountedNone back.no beat.old.ops beat.new.ops) }
+    ensures told { ToldOf (P.told beat.old.pace.now) beat.old.ops beat.new.ops }
 {
     let mut ota = ota;
     let mut rest = image;
@@ -124,6 +133,9 @@ fn seal<'w, 'a, R: Wait, D: Crash, P: Pace>(
         (ended_as result.1) ota.entry.core result.0 }
     ensures end { IfOk result.1 (λ end.
         end ≡ closed_end ota.entry.target.size (image_of ota.entry.core.base)) }
+    ensures ops { IfOk result.1 (λ end. beat.new.ops ≡ counted beat.old.ops
+        (closed_ops ota.entry.target.size (image_of ota.entry.core.base))) }
+    ensures told { ToldOf (P.told beat.old.pace.now) beat.old.ops beat.new.ops }
 {
     match ota.end(rt) {
         Err(back) => (back.core, unsealed(back.no)),
@@ -162,6 +174,8 @@ pub(crate) fn affirm<'w, 'a, R: Wait, D: Crash, P: Pace>(
     ensures ran { HasRun 0 (confirm_moves layout.now rewrite.now beat.old.probe)
         (ended_as result.1) core.entry result.0 }
     ensures end { IfOk result.1 (λ end. end ≡ Done) }
+    ensures ops { IfOk result.1 (λ end. beat.new.ops ≡ counted beat.old.ops 2) }
+    ensures told { ToldOf (P.told beat.old.pace.now) beat.old.ops beat.new.ops }
 {
     match confirm(rt, core, beat, layout, rewrite) {
         Err(back) => (back.core, Err(back.no)),

@@ -1,7 +1,8 @@
 //! Both cores in two threads.
 
-ghost use Rattle.std.specs.Prelude.{◌≡◌, ◌<◌, IfOk, IsOk, Ok};
+ghost use Rattle.std.specs.Prelude.{◌≡◌, ◌<◌, IfOk, IsOk, Ok, length};
 ghost use Rattle.partition_table.specs.Layout.{Places, layout_of};
+ghost use Rattle.duo_run.specs.Paced.{IsToldLeg, session_ops};
 ghost use Rattle.duo_run.specs.Legs.{IsDuoConfirm, IsDuoSession, MayAffirm, MayInstall};
 
 use crate::both::{Beside, leg};
@@ -45,6 +46,7 @@ impl<'a, P: Pace + Sync> Duo<'a, P> {
     fn beside(&self) -> Beside<'a, P>
         ensures table { result.table.now ≡ self.now.table.now }
         ensures script { result.script.now ≡ self.now.script.now }
+        ensures pace { result.pace.now ≡ self.now.pace.now }
     {
         Beside {
             script: self.script,
@@ -70,6 +72,10 @@ impl<'a, P: Pace + Sync> Duo<'a, P> {
             → layout_of self.now.table.now ≡ Ok layout
             → IsDuoSession self.now.table.now self.now.script.now self.now.driver layout aim.now
             image.now dev ran) }
+        ensures told { IfOk result (λ ran. (layout : Places)
+            → layout_of self.now.table.now ≡ Ok layout
+            → IsToldLeg (P.told self.now.pace.now) (session_ops layout aim.now image.now)
+            (length self.now.script.now) ran) }
     {
         let layout = layout_of(self.table);
         let row = layout.place(aim.running);
@@ -104,6 +110,8 @@ impl<'a, P: Pace + Sync> Duo<'a, P> {
             → layout_of self.now.table.now ≡ Ok layout
             → IsDuoConfirm self.now.table.now self.now.script.now self.now.driver layout at.now
             write.now dev ran) }
+        ensures told { IfOk result
+            (IsToldLeg (P.told self.now.pace.now) 2 (length self.now.script.now)) }
     {
         let layout = layout_of(self.table);
         let row = layout.place(at.app);

@@ -1,9 +1,11 @@
 //! What the core that drives is to do.
 
-ghost use Rattle.std.specs.Prelude.{◌≡◌, ◌≤◌, ◌<◌, ◌^◌, IsOk, Ok};
+ghost use Rattle.std.specs.Prelude.{◌≡◌, ◌≤◌, ◌<◌, ◌^◌, IfOk, IsOk, Ok};
 ghost use Rattle.bus_hub.specs.declared.did.Base.{Base};
 ghost use Rattle.partition_table.specs.Layout.{Places, layout_of};
 ghost use Rattle.ota_session.specs.Course.{course_from};
+ghost use Rattle.flash_ops.specs.Told.{ToldOf, counted};
+ghost use Rattle.duo_run.specs.Paced.{TellsOps, ops_for};
 ghost use Rattle.duo_run.specs.Jobs.{CanDrive, HasDriven, IsAsLong, driver_room, length_for, purpose_of};
 
 use crate::driver::{affirm, install};
@@ -66,7 +68,11 @@ fn drive<'w, 'a, R: Wait, D: Crash, P: Pace>(
     job: &Job<'_>,
 ) -> (Core<'w, D, UpdateDuty<'a>>, Result<LegEnd, StepNo>)
     requires can { CanDrive layout.now (purpose_of job.now) beat.old.probe core }
-    ensures { HasDriven layout.now (purpose_of job.now) beat.old.probe result.1 core.entry result.0 }
+    ensures driven { HasDriven layout.now (purpose_of job.now) beat.old.probe result.1
+        core.entry result.0 }
+    ensures ops { IfOk result.1 (λ end.
+        beat.new.ops ≡ counted beat.old.ops (ops_for layout.now (purpose_of job.now))) }
+    ensures told { ToldOf (P.told beat.old.pace.now) beat.old.ops beat.new.ops }
 {
     match job {
         Job::Install { aim, image } => install(rt, core, beat, layout, aim, image),
@@ -84,7 +90,8 @@ pub(crate) fn run_driver<'w, 'a, R: Wait, D: Crash, P: Pace>(
     pace: &P,
 ) -> (Ended<D, UpdateDuty<'a>>, Result<LegEnd, StepNo>)
     requires can { CanDrive layout.now (purpose_of job.now) probe core }
-    ensures { HasDriven layout.now (purpose_of job.now) probe result.1 core.entry result.0 }
+    ensures driven { HasDriven layout.now (purpose_of job.now) probe result.1 core.entry result.0 }
+    ensures told { TellsOps (P.told pace.now) (ops_for layout.now (purpose_of job.now)) result.1 }
 {
     let mut beat = Beat {
         pace,

@@ -1,6 +1,8 @@
 //! The second core works on its script.
 
+ghost use Rattle.std.specs.Prelude.{length};
 ghost use Rattle.flash_ops.specs.Told.{fault_of};
+ghost use Rattle.duo_run.specs.Paced.{TellsActs};
 ghost use Rattle.duo_run.specs.Works.{CanWork, HasWorked};
 
 use crate::actions::act;
@@ -23,7 +25,8 @@ pub(crate) fn work<'w, R: Wait, D: Crash, K: Duty, P: Pace>(
     pace: &P,
 ) -> (Core<'w, D, K>, Result<(), StepNo>)
     requires can { CanWork K.part K.grants K.moved table.now script.now core }
-    ensures { HasWorked table.now script.now (fault_of result.1) core.entry result.0 }
+    ensures worked { HasWorked table.now script.now (fault_of result.1) core.entry result.0 }
+    ensures told { TellsActs (P.told pace.now) (length script.now) result.1 }
 {
     let mut core = core;
     for i in 0..script.len() {
@@ -50,7 +53,8 @@ pub(crate) fn run_worker<'w, R: Wait, D: Crash, K: Duty, P: Pace>(
     pace: &P,
 ) -> (Ended<D, K>, Result<(), StepNo>)
     requires can { CanWork K.part K.grants K.moved table.now script.now core }
-    ensures { HasWorked table.now script.now (fault_of result.1) core.entry result.0 }
+    ensures worked { HasWorked table.now script.now (fault_of result.1) core.entry result.0 }
+    ensures told { TellsActs (P.told pace.now) (length script.now) result.1 }
 {
     let (core, end) = work(rt, core.start(rt), script, table, pace);
     (core.rest(rt).ended(), end)

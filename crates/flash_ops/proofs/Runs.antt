@@ -7,7 +7,7 @@ use Rattle.nor_device.specs.declared.nor.NorFault.{NorFault}
 use Rattle.nor_device.specs.declared.nor.NorFault.TheVariants as faults
 use Rattle.duo_machine.specs.declared.events.Kind.{Kind}
 use Rattle.bus_hub.specs.declared.did.Did.{Did}
-use Rattle.bus_hub.specs.declared.did.Did.TheVariants.{Opened, Closed, Broken, Fetched, Denied}
+use Rattle.bus_hub.specs.declared.did.Did.TheVariants.{Opened, Closed, Broken, Fetched, Denied, Unfetched}
 use Rattle.bus_hub.specs.declared.reads.FetchNo.TheVariants as refusals
 use Rattle.bus_hub.specs.Hub.{needs, byte_needs}
 use Rattle.bus_hub.specs.Shares.{Begun, made, made_by, made_from, open_after, open_from}
@@ -294,7 +294,7 @@ module _ {B : Type 0} where
   pub run_look_off : (k at : ℕ) (o p : Own B Did) → HasFetched k at 4 (Err refusals.Off) o p
       → HasRun k (Look at ∷ []) (Err faults.Off) o p
   run_look_off k at o p h = record {
-    items = Denied faults.Off ∷ [];
+    items = Unfetched at 4 faults.Off ∷ [];
     adds = h;
     ran = inl refl;
   }
@@ -302,7 +302,7 @@ module _ {B : Type 0} where
   pub run_look_failed : (k at : ℕ) (o p : Own B Did) → HasFetched k at 4 (Err refusals.Failed) o p
       → HasRun k (Look at ∷ []) (Err faults.Failed) o p
   run_look_failed k at o p h = record {
-    items = Denied faults.Failed ∷ [];
+    items = Unfetched at 4 faults.Failed ∷ [];
     adds = h;
     ran = inl refl;
   }

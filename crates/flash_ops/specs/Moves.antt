@@ -6,7 +6,7 @@ use Rattle.nor_device.specs.declared.step.Step.{Step}
 use Rattle.nor_device.specs.declared.nor.NorFault.{NorFault}
 use Rattle.flash_steps.specs.Steps.{write_steps, erase_steps}
 use Rattle.bus_hub.specs.declared.did.Did.{Did}
-use Rattle.bus_hub.specs.declared.did.Did.TheVariants.{Opened, Closed, Broken, Fetched, Denied}
+use Rattle.bus_hub.specs.declared.did.Did.TheVariants.{Opened, Closed, Broken, Fetched, Denied, Unfetched}
 use Rattle.cache_gate.specs.Own.{Own, Adds}
 
 -- a move of a core: it makes a step in a quiet period, looks at 4 bytes through its cache, or asks
@@ -101,7 +101,7 @@ Stops k regs why (Make step ∷ moves) items =
     ⊎ ((rest : List Did) × (items ≡ Opened k masked step ∷ Closed k masked ∷ rest)
     × Stops k regs why moves rest))
 Stops k regs why (Look at ∷ moves) items =
-    (items ≡ Denied why ∷ [])
+    (items ≡ Unfetched at 4 why ∷ [])
     ⊎ ((bytes : List ℕ) × (rest : List Did) × (length bytes ≡ 4)
     × (items ≡ Fetched k regs at bytes ∷ rest) × Stops k regs why moves rest)
 Stops k regs why (Ask ∷ moves) items =

@@ -1,4 +1,5 @@
-//! What no clause says: the journal of a driver beside a resting core, and when its pace is called.
+//! What no clause says: the journal of a driver beside a resting core, and when its pace is called:
+//! before the first step of a period is made, and behind the last one.
 
 ghost use Rattle.std.specs.Prelude.{◌≡◌, ◌≤◌, ◌<◌, ◌^◌, IfOk, IfSome, Some, length};
 ghost use Rattle.partition_table.specs.Rules.{FitsFlash};
@@ -7,12 +8,12 @@ ghost use Rattle.cache_gate.specs.Rounds.{IsReadyFor, Spends};
 ghost use Rattle.flash_ops.specs.Asked.{CanLook};
 
 use crate::{Beat, OpNo, Pace, Point, erase, part_erase, part_write, read, write};
-use bus_hub::{Act, AnyDuty, Bus, Entry, Journal, Room};
+use bus_hub::{Act, AnyPart, Bus, Duty, Entry, Journal, Room};
 use cache_gate::{Core, Ended, Gates, open};
 use core_state::Regs;
 use crash_images::Crash;
 use mmu_map::Pages;
-use nor_device::{RamNor, StepEnd};
+use nor_device::{RamNor, Step, StepEnd};
 use partition_table::{Row, Table, padded_label};
 use std::alloc::{AllocError, Global};
 use std::cell::Cell;
@@ -24,13 +25,18 @@ const SIZE: usize = 1_048_576;
 /// The first address of the data space.
 const DATA: u32 = 0x3F40_0000;
 
-/// Keeps the points as the digits of a number: n before the n-th period, n + 5 behind it.
-#[derive(Drop)]
-struct Trace {
-    digits: Cell<u64>,
+/// One digit more at the end of a number.
+fn note(digits: &Cell<u64>, digit: u64) {
+    digits.set(digits.get().saturating_mul(10).saturating_add(digit));
 }
 
-impl Pace for Trace {
+/// Keeps the points as the digits of a number: n before the n-th period, n + 5 behind it.
+#[derive(Drop)]
+struct Trace<'a> {
+    digits: &'a Cell<u64>,
+}
+
+impl<'a> Pace for Trace<'a> {
     ghost told = { λ pace point. Unit {0} };
 
     fn at(&self, point: Point) {
@@ -40,9 +46,47 @@ impl Pace for Trace {
             Point::WorkerAct(_) => 0,
             Point::WorkerActDone(_) => 0,
         };
-        self.digits
-            .set(self.digits.get().saturating_mul(10).saturating_add(digit));
+        note(self.digits, digit);
     }
+}
+
+/// A duty that allows every step, and notes each one that is made behind the points of the pace, as
+/// the digit 9.
+#[derive(Drop)]
+struct Heard<'a> {
+    digits: &'a Cell<u64>,
+}
+
+impl<'a> Duty for Heard<'a> {
+    type Part = AnyPart;
+
+    ghost use Rattle.std.specs.Prelude.{refl};
+
+    ghost part = { λ duty c. record {} };
+
+    ghost grants = { λ part step. Unit {0} };
+
+    ghost moved = { λ part step. part };
+
+    ghost after = { λ duty c step. duty };
+
+    ghost good = { λ first duty flash. Unit {0} };
+
+    fn allows(&self, _core: u8, _step: &Step) -> bool {
+        true
+    }
+
+    fn made(&mut self, _core: u8, _step: &Step) {
+        note(self.digits, 9);
+    }
+
+    ghost own = { λ duty c step. refl };
+
+    ghost other = { λ duty c o step apart. refl };
+
+    ghost torn_good = { λ first duty c step flash left is may torn. tt };
+
+    ghost made_good = { λ first duty c step flash is may. tt };
 }
 
 /// As many bytes of one value.
@@ -54,14 +98,15 @@ fn filled(alloc: Global, byte: u8, size: usize) -> Result<Vec<u8>, AllocError>
 
 /// Gates over a device in memory of zeros, whose first page is that of the data space. Core 0 has room
 /// for this; core 1 has none.
-fn gates(
+fn gates<'a>(
     alloc: Global,
     room: Room,
+    digits: &'a Cell<u64>,
 ) -> Option<
     (
-        Gates<RamNor, AnyDuty>,
-        Ended<RamNor, AnyDuty>,
-        Ended<RamNor, AnyDuty>,
+        Gates<RamNor, Heard<'a>>,
+        Ended<RamNor, Heard<'a>>,
+        Ended<RamNor, Heard<'a>>,
     ),
 >
     ensures left { IfSome result
@@ -81,7 +126,7 @@ fn gates(
     };
     let mut pages = Pages::new();
     pages.fix(DATA, 0, 1);
-    let bus = Bus::new(RamNor::of_bytes(bytes, 2), pages, journal, AnyDuty);
+    let bus = Bus::new(RamNor::of_bytes(bytes, 2), pages, journal, Heard { digits });
     match open(alloc, bus) {
         Ok(opened) => Some(opened),
         Err(_refused) => None,
@@ -89,11 +134,11 @@ fn gates(
 }
 
 /// The sector from 0x10000 on is erased.
-fn erase_one<'w, R: Wait, D: Crash, P: Pace>(
+fn erase_one<'w, 'a, R: Wait, D: Crash, P: Pace>(
     rt: &R,
-    core: Core<'w, D, AnyDuty>,
+    core: Core<'w, D, Heard<'a>>,
     beat: &mut Beat<'_, P>,
-) -> (Core<'w, D, AnyDuty>, bool)
+) -> (Core<'w, D, Heard<'a>>, bool)
     requires room { HasRoom core.base core.core core.share 3 4 }
     requires inside { IsInside core.base 1048576 }
     requires look { CanLook core.base core.regs beat.old.probe }
@@ -106,11 +151,11 @@ fn erase_one<'w, R: Wait, D: Crash, P: Pace>(
 }
 
 /// Three bytes are written across the end of a page.
-fn write_three<'w, R: Wait, D: Crash, P: Pace>(
+fn write_three<'w, 'a, R: Wait, D: Crash, P: Pace>(
     rt: &R,
-    core: Core<'w, D, AnyDuty>,
+    core: Core<'w, D, Heard<'a>>,
     beat: &mut Beat<'_, P>,
-) -> (Core<'w, D, AnyDuty>, bool)
+) -> (Core<'w, D, Heard<'a>>, bool)
     requires room { HasRoom core.base core.core core.share 5 4 }
     requires inside { IsInside core.base 1048576 }
     requires look { CanLook core.base core.regs beat.old.probe }
@@ -121,12 +166,12 @@ fn write_three<'w, R: Wait, D: Crash, P: Pace>(
 }
 
 /// The sector is erased, the bytes are written, and four are read from the one before them on.
-fn drive<'w, R: Wait, D: Crash, P: Pace>(
+fn drive<'w, 'a, R: Wait, D: Crash, P: Pace>(
     rt: &R,
-    core: Core<'w, D, AnyDuty>,
+    core: Core<'w, D, Heard<'a>>,
     beat: &mut Beat<'_, P>,
     out: &mut [u8; 4],
-) -> (Core<'w, D, AnyDuty>, bool)
+) -> (Core<'w, D, Heard<'a>>, bool)
     requires room { HasRoom core.base core.core core.share 8 8 }
     requires inside { IsInside core.base 1048576 }
     requires look { CanLook core.base core.regs beat.old.probe }
@@ -146,10 +191,9 @@ fn driven<R: Wait>(rt: &R, alloc: Global, out: &mut [u8; 4]) -> Option<(Journal,
         entries: 8,
         bytes: 8,
     };
-    let (gates, left, right) = gates(alloc, room)?;
-    let pace = Trace {
-        digits: Cell::new(0),
-    };
+    let digits = Cell::new(0);
+    let (gates, left, right) = gates(alloc, room, &digits)?;
+    let pace = Trace { digits: &digits };
     let mut beat = Beat {
         pace: &pace,
         probe: Some(DATA),
@@ -160,7 +204,7 @@ fn driven<R: Wait>(rt: &R, alloc: Global, out: &mut [u8; 4]) -> Option<(Journal,
     let ops = beat.ops;
     let (_dev, journal, _duty) = gates.close(left, right).into_parts();
     if done {
-        Some((journal, pace.digits.get(), ops))
+        Some((journal, digits.get(), ops))
     } else {
         None
     }
@@ -225,7 +269,7 @@ fn a_driver_beside_a_resting_core(rt: HostRuntime) -> Result<(), Fail> {
     );
     assert_eq!(rt; entries[7], look_at(4), "a look");
     assert_eq!(rt; out, [0xFF, 0x12, 0x34, 0x56], "read back");
-    assert_eq!(rt; (points, ops), (1627, 2), "points and periods");
+    assert_eq!(rt; (points, ops), (1962997, 2), "points and steps, and periods");
     Ok(())
 }
 
@@ -263,12 +307,12 @@ fn table() -> Result<Table, Fail>
 }
 
 /// A sector of a partition is erased.
-fn erase_in<'w, R: Wait, D: Crash>(
+fn erase_in<'w, 'a, R: Wait, D: Crash>(
     rt: &R,
-    core: Core<'w, D, AnyDuty>,
+    core: Core<'w, D, Heard<'a>>,
     table: &Table,
     label: &[u8],
-) -> (Core<'w, D, AnyDuty>, Result<(), OpNo>)
+) -> (Core<'w, D, Heard<'a>>, Result<(), OpNo>)
     requires room { HasRoom core.base core.core core.share 2 0 }
     requires inside { IsInside core.base 1048576 }
     requires fits { FitsFlash 1048576 table.now }
@@ -278,12 +322,12 @@ fn erase_in<'w, R: Wait, D: Crash>(
 }
 
 /// Two bytes are written where it begins.
-fn write_in<'w, R: Wait, D: Crash>(
+fn write_in<'w, 'a, R: Wait, D: Crash>(
     rt: &R,
-    core: Core<'w, D, AnyDuty>,
+    core: Core<'w, D, Heard<'a>>,
     table: &Table,
     label: &[u8],
-) -> (Core<'w, D, AnyDuty>, Result<(), OpNo>)
+) -> (Core<'w, D, Heard<'a>>, Result<(), OpNo>)
     requires room { HasRoom core.base core.core core.share 4 0 }
     requires inside { IsInside core.base 1048576 }
     requires fits { FitsFlash 1048576 table.now }
@@ -304,7 +348,8 @@ fn changed<R: Wait>(
         entries: 12,
         bytes: 0,
     };
-    let (gates, left, right) = gates(alloc, room)?;
+    let digits = Cell::new(0);
+    let (gates, left, right) = gates(alloc, room, &digits)?;
     let core = gates.core(left).start(rt);
     let (core, erased) = erase_in(rt, core, table, b"nvs");
     let (core, written) = write_in(rt, core, table, b"nvs");

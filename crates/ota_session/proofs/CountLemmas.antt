@@ -6,11 +6,12 @@ use Rattle.flash_steps.proofs.WriteLemmas.{count_of_write}
 use Rattle.update_steps.specs.Driver.{whole_sectors}
 use Rattle.flash_ops.specs.declared.refusal.StepNo.{StepNo}
 use Rattle.flash_ops.specs.Moves.{periods_of}
+use Rattle.flash_ops.proofs.Pieces.{few_pages}
 use Rattle.flash_ops.specs.Told.{CountsPeriods, IsCountedUpTo, counted}
 use Rattle.ota_session.specs.SessionTold.{begin_periods}
 
 -- one count behind another is a count of both
-counted_on : (before first later both : ℕ) → both ≡ later + first
+pub counted_on : (before first later both : ℕ) → both ≡ later + first
     → counted (counted before first) later ≡ counted before both
 counted_on before first zero both sum =
     let same : first ≡ both = omega (arith, sum) in ap (counted before) same
@@ -76,3 +77,11 @@ entry_periods at bytes aligned long =
     let count : length (write_steps at bytes) ≡ (at % 256 + 32 + 255) / 256 =
     count_of_write at bytes ∙ ap (pages_in at) long in
     omega (arith, count, aligned)
+
+-- so have at most 4096 bytes where a page begins
+pub piece_periods : (at : ℕ) (bytes : List ℕ) → at % 256 ≡ 0 → 1 ≤ length bytes
+    → length bytes ≤ 4096 → periods_of (write_steps at bytes) ≡ 1
+piece_periods at bytes aligned some few =
+    let pages = few_pages at (length bytes) some (omega (arith, aligned, few)) in
+    let count = count_of_write at bytes in
+    omega arith

@@ -22,7 +22,7 @@ use Rattle.boot_run.specs.declared.aims.Aim.{Aim}
 use Rattle.flash_steps.specs.Parts.{open_addresses}
 use Rattle.bus_hub.specs.declared.did.Base.{Base}
 use Rattle.bus_hub.specs.declared.did.Did.{Did}
-use Rattle.bus_hub.specs.declared.did.Did.TheVariants.{Opened, Closed, Broken, Fetched, Noted, Denied, Mapping, Unmapping, Missed, Masked}
+use Rattle.bus_hub.specs.declared.did.Did.TheVariants.{Opened, Closed, Broken, Fetched, Noted, Denied, Mapping, Unmapping, Missed, Masked, Unfetched}
 use Rattle.bus_hub.specs.declared.did.Running.{Running}
 use Rattle.bus_hub.specs.Hub.{Hub, begun, step_of}
 use Rattle.bus_hub.specs.Log.{Item, State, change, made_whole, of_core, reached}
@@ -83,6 +83,7 @@ same_change s c (Mapping flash_page n space answer) = same_self s.duty
 same_change s c (Unmapping at answer) = same_self s.duty
 same_change s c (Missed at len) = same_self s.duty
 same_change s c (Masked at len) = same_self s.duty
+same_change s c (Unfetched at len why) = same_self s.duty
 
 -- a log
 pub same_reached : (s : State Course) (log : List Item)

@@ -7,25 +7,29 @@ use Rattle.std.proofs.Math.Seq.{take-add}
 use Rattle.nor_device.specs.declared.step.Step.{Step}
 use Rattle.nor_device.specs.declared.nor.StepEnd.{StepEnd}
 use Rattle.nor_device.specs.declared.nor.NorFault.{NorFault}
+use Rattle.duo_machine.specs.declared.events.Kind.{Kind}
 use Rattle.image_verify.specs.declared.reader.Reader.{Reader}
 use Rattle.image_verify.specs.Fed.{HasRead}
 use Rattle.boot_run.specs.Rewriting.{rewrite}
 use Rattle.bus_hub.specs.declared.did.Base.{Base}
 use Rattle.bus_hub.specs.declared.did.Did.{Did}
 use Rattle.bus_hub.specs.Hub.{Hub}
-use Rattle.cache_gate.specs.Own.{IsInside, Own}
+use Rattle.cache_gate.specs.Own.{HasShown, IsInside, Own}
 use Rattle.image_verify.specs.Bad.{bad}
 use Rattle.update_steps.specs.Driver.{data_steps, next_rewrite, sealed_steps}
 use Rattle.flash_ops.specs.declared.refusal.StepNo.{StepNo}
+use Rattle.flash_ops.specs.declared.refusal.StepNo.TheVariants as steps
 use Rattle.flash_ops.specs.Told.{fault_of}
 use Rattle.flash_ops.specs.Moves.{Ask, HasRun, Move, read_moves, steps_of}
 use Rattle.flash_ops.specs.Shown.{AreBytesOf}
 use Rattle.flash_ops.proofs.Pieces.{read_next, read_nothing, steps_of_read}
+use Rattle.flash_ops.specs.Periods.{BreaksOff, HasFewInPeriod, HasPeriod, HasPeriods, read_periods, period_shown, periods_shown}
+use Rattle.flash_ops.proofs.PeriodLemmas.{Passed, passed_all, passed_none, passed_one, passed_stops, read_periods_next, read_periods_none}
 use Rattle.flash_ops.proofs.Runs.{Left, base_same, left_all, left_none, left_stops, left_then}
 use Rattle.ota_session.specs.Course.{Course, Install}
 use Rattle.ota_session.specs.declared.target.Target.{Target}
 use Rattle.ota_session.specs.Stages.{IsWritten, image_of}
-use Rattle.ota_session.specs.SessionTold.{cause_of}
+use Rattle.ota_session.specs.SessionTold.{cause_of, found_as}
 use Rattle.ota_session.proofs.MoveLemmas.{data_front}
 use Rattle.ota_session.proofs.ReadLemmas.{StandsBy, slot_byte}
 use Rattle.ota_session.proofs.StageLemmas.{IsSlot, drives_as, drives_inside, drives_more, image_is, ran_err, ran_ok, slot}
@@ -173,11 +177,46 @@ split_read len piece some within most short long =
     read_next len piece some within short long
     ∙ ap (λ (m : List Move). m ++ read_moves (len - piece)) (sym one)
 
+fault_as : (why : StepNo) → fault_of (Err why) ≡ Err (cause_of why)
+fault_as steps.Device = refl
+fault_as steps.Cut = refl
+
+-- a read of at most 4096 bytes shows as one quiet period
+pub one_read : {B : Type 0} (count : ℕ) (r : Result (Unit {0}) StepNo) (o p : Own B Did)
+    → 1 ≤ count → count ≤ 4096 → HasPeriods (read_periods count) r o p → HasPeriod 0 r o p
+one_read {B} count r o p some most h =
+    by r (subst (λ (l : List ℕ). HasPeriods l r o p) one h)
+  where
+    gone : count - count ≡ 0
+    gone = omega arith
+
+    one : read_periods count ≡ 0 ∷ []
+    one = read_periods_next count count some (omega arith) (λ few. refl) (λ many. omega arith)
+        ∙ ap (λ (n : ℕ). 0 ∷ read_periods n) gone ∙ ap (λ (l : List ℕ). 0 ∷ l) read_periods_none
+
+    alone : (n : ℕ) → HasShown (periods_shown (n ∷ [])) o p → HasShown (period_shown n) o p
+    alone n shows = subst (λ (l : List Kind). HasShown l o p) (append-nil (period_shown n)) shows
+
+    stopped : (made : List ℕ) → BreaksOff (0 ∷ []) made → HasShown (periods_shown made) o p
+        → HasFewInPeriod 0 o p
+    stopped [] broke shows = absurd broke
+    stopped (m ∷ made) (inl broke) shows = record {
+      many = m;
+      within = broke.0;
+      shows = alone m (subst (λ (l : List ℕ). HasShown (periods_shown (m ∷ l)) o p) broke.1 shows);
+    }
+    stopped (m ∷ made) (inr broke) shows = absurd broke.1
+
+    by : (r : Result (Unit {0}) StepNo) → HasPeriods (0 ∷ []) r o p → HasPeriod 0 r o p
+    by (Ok u) h = alone 0 (subst (λ (l : List ℕ). HasShown (periods_shown l) o p) h.by_answer h.shows)
+    by (Err why) h = stopped h.made h.by_answer h.shows
+
 -- so many bytes were read back and handed to the verifier
 pub record HasFed {S : Type 0} (target : Target) (n : ℕ) (reader : Reader)
     (o c : Own (Base S Course) Did) : Type 0 where
   pub within : n ≤ target.length
   pub left : Left 0 (read_moves target.length) (read_moves (target.length - n)) o c
+  pub passed : Passed (read_periods target.length) (read_periods (target.length - n)) o c
   pub base : c.base ≡ o.base
   pub written : IsWritten target c
   pub read : HasRead reader target.size (take n (image_of o.base))
@@ -190,6 +229,8 @@ fed_none target reader o written fresh =
       within = omega arith;
       left = left_all 0 (read_moves target.length) (read_moves (target.length - 0)) o
           (ap read_moves all);
+      passed = passed_none (read_periods target.length) (read_periods (target.length - 0)) o
+          (ap read_periods (sym all));
       base = refl;
       written = written;
       read = fresh;
@@ -201,7 +242,11 @@ module _ {S : Type 0} (target : Target) (n : ℕ) (reader : Reader) (o c : Own (
       (more : n < target.length) (within : count ≤ target.length - n) (most : count ≤ 4096)
       (short : target.length - n ≤ 4096 → count ≡ target.length - n)
       (long : 4096 ≤ target.length - n → count ≡ 4096)
-      (run : HasRun 0 (read_moves count) (fault_of r) c p) where
+      (run : HasRun 0 (read_moves count) (fault_of r) c p) (period : HasPeriod 0 r c p) where
+    next : read_periods (target.length - n)
+        ≡ 0 ∷ read_periods (target.length - n - count)
+    next = read_periods_next (target.length - n) count (omega arith) within short long
+
     split : read_moves (target.length - n)
         ≡ read_moves count ++ read_moves (target.length - n - count)
     split = split_read (target.length - n) count (omega arith) within most short long
@@ -219,6 +264,10 @@ module _ {S : Type 0} (target : Target) (n : ℕ) (reader : Reader) (o c : Own (
           left = left_then 0 (read_moves target.length) (read_moves (target.length - n))
               (read_moves count) (read_moves (target.length - (n + count))) o c p
               (split ∙ ap (λ (m : ℕ). read_moves count ++ read_moves m) later) fed.left ran;
+          passed = passed_one (read_periods target.length) (read_periods (target.length - n))
+              (read_periods (target.length - (n + count))) 0 o c p
+              (next ∙ ap (λ (m : ℕ). 0 ∷ read_periods m) later) fed.passed
+              (subst (λ (x : Result (Unit {0}) StepNo). HasPeriod 0 x c p) fine period);
           base = base_same 0 (read_moves count) (Ok tt) c p ran ∙ fed.base;
           written = still_written target c fed.written (read_moves count) r u p
               (steps_of_read count) fine run;
@@ -236,7 +285,22 @@ module _ {S : Type 0} (target : Target) (n : ℕ) (reader : Reader) (o c : Own (
         (read_moves (target.length - n - count)) (cause_of why) o c p split fed.left
         (ran_err 0 (read_moves count) r why c p is run)
 
+    pub fed_breaks : (why : StepNo) → r ≡ Err why
+        → HasPeriods (read_periods target.length) (found_as (Err why)) o p
+    fed_breaks why is =
+        let broke = passed_stops (read_periods target.length) (read_periods (target.length - n))
+        (read_periods (target.length - n - count)) 0 (Err why) (cause_of why) o c p
+        (fault_as why) next fed.passed
+        (subst (λ (x : Result (Unit {0}) StepNo). HasPeriod 0 x c p) is period) in
+        record { made = broke.made; by_answer = broke.by_answer; shows = broke.shows }
+
   -- all bytes were read back
+  pub fed_periods : target.length ≤ n → HasPeriods {E = NorFault} (read_periods target.length) (Ok tt) o c
+  fed_periods all =
+      let none : target.length - n ≡ 0 = omega arith in
+      passed_all (read_periods target.length) (read_periods (target.length - n)) o c
+      (ap read_periods none ∙ read_periods_none) fed.passed
+
   pub fed_ran : target.length ≤ n → HasRun 0 (read_moves target.length) (Ok tt) o c
   fed_ran all =
       let none : target.length - n ≡ 0 = omega arith in

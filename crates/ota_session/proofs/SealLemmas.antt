@@ -2,6 +2,7 @@
 use Rattle.std.proofs.Common.{◌≡◌, ◌≢◌, inl, inr, ℕ, ◌+◌, ◌%◌, ◌^◌, ◌<◌, List, [], ◌∷◌, ◌++◌, length, take, Option, Some, None, IfSome, IfOk, Result, Ok, Err, refl, sym, ap, ◌∙◌, subst, arith, append-nil}
 use Rattle.std.proofs.lemmas.List.{take_all}
 use Rattle.nor_device.specs.declared.step.Step.{Step}
+use Rattle.nor_device.specs.declared.nor.NorFault.{NorFault}
 use Rattle.partition_table.specs.declared.row.Row.{Row}
 use Rattle.partition_table.specs.Layout.{IsPlaced, Places}
 use Rattle.otadata.proofs.ChoiceLemmas.{active-lt}
@@ -27,11 +28,13 @@ use Rattle.ota_session.specs.Course.{Confirm, Confirms, Course, Grants, Install,
 use Rattle.ota_session.specs.GoodLaws.{placed}
 use Rattle.ota_session.specs.declared.target.Target.{Target}
 use Rattle.ota_session.specs.Stages.{Drives, IsToConfirm, IsVerified, IsWriting, IsWritten, Verified, Writing, confirm_moves, entry_moves, image_of}
-use Rattle.ota_session.specs.SessionTold.{HasVerified, IsNotVerified, cause_of, found_as, unread_by}
+use Rattle.ota_session.specs.SessionTold.{HasVerified, IsNotVerified, answered_by, cause_of, found_as, unread_by}
 use Rattle.ota_session.specs.declared.refusal.EndNo.{EndNo}
 use Rattle.ota_session.specs.declared.refusal.EndNo.TheVariants as ends
 use Rattle.ota_session.proofs.MoveLemmas.{data_front}
 use Rattle.ota_session.proofs.StageLemmas.{drives_as, drives_inside, drives_may, image_is, installs, ran_err, ran_ok, slot}
+use Rattle.flash_ops.specs.Periods.{HasPeriods, read_periods}
+use Rattle.flash_ops.proofs.PeriodLemmas.{read_periods_none, shown_none}
 use Rattle.ota_session.proofs.ReadBackLemmas.{still_written}
 
 -- what the rewrite of an entry asks
@@ -310,3 +313,42 @@ module _ {S : Type 0} (w self : Writing (Base S Course)) (same : w ≡ self) (is
             → IsNotVerified (image_of w.core.base) w (unread_by why) p
         by steps.Device told = told
         by steps.Cut told = told
+
+-- in the quiet periods of the read
+module _ {S : Type 0} (w self : Writing (Base S Course)) (same : w ≡ self)
+    (all : self.written ≡ self.target.length) (p : Own (Base S Course) Did)
+    (r : Result (Option BadImage) StepNo)
+    (periods : HasPeriods (read_periods w.target.length) (found_as r) w.core p) where
+  there : HasPeriods (read_periods self.written) (found_as r) self.core p
+  there = subst (λ (n : ℕ). HasPeriods (read_periods n) (found_as r) self.core p) (sym all)
+      (subst (λ (x : Writing (Base S Course)).
+      HasPeriods (read_periods x.target.length) (found_as r) x.core p) same periods)
+
+  pub read_whole_at : (found : Option BadImage) → r ≡ Ok found
+      → HasPeriods {E = NorFault} (read_periods self.written) (Ok tt) self.core p
+  read_whole_at found fine =
+      subst (λ (x : Result (Option BadImage) StepNo).
+      HasPeriods (read_periods self.written) (found_as x) self.core p) fine there
+
+  pub read_part_at : (why : StepNo) (told : EndNo) → r ≡ Err why → told ≡ unread_by why
+      → HasPeriods (read_periods self.written) (answered_by told) self.core p
+  read_part_at why told fault is_told =
+      subst (λ (x : EndNo). HasPeriods (read_periods self.written) (answered_by x) self.core p)
+      (sym is_told)
+      (by why (subst (λ (x : Result (Option BadImage) StepNo).
+      HasPeriods (read_periods self.written) (found_as x) self.core p) fault there))
+    where
+      by : (why : StepNo) → HasPeriods (read_periods self.written) (found_as (Err why)) self.core p
+          → HasPeriods (read_periods self.written) (answered_by (unread_by why)) self.core p
+      by steps.Device told = told
+      by steps.Cut told = told
+
+-- none where nothing is written
+pub read_none_at : {S : Type 0} (w self : Writing (Base S Course)) → w ≡ self → w.written ≡ 0
+    → HasPeriods {E = NorFault} (read_periods self.written) (Ok tt) self.core w.core
+read_none_at {S} w self same none =
+    subst (λ (x : Writing (Base S Course)).
+    HasPeriods {E = NorFault} (read_periods x.written) (Ok tt) x.core w.core) same
+    (subst (λ (l : List ℕ). HasPeriods {E = NorFault} l (Ok tt) w.core w.core)
+    (sym (ap read_periods none ∙ read_periods_none))
+    (record { made = []; by_answer = refl; shows = shown_none w.core }))

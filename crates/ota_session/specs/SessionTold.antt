@@ -47,6 +47,14 @@ abbrev pub found_as : Result (Option BadImage) StepNo → Result (Unit {0}) NorF
 found_as (Ok found) = Ok tt
 found_as (Err why) = Err (cause_of why)
 
+-- how the device answered the reads of a session that was not announced: all of them where nothing
+-- was written, or the bytes show a fault
+abbrev pub answered_by : EndNo → Result (Unit {0}) NorFault
+answered_by ends.Empty = Ok tt
+answered_by (ends.Bad why) = Ok tt
+answered_by ends.Device = Err Failed
+answered_by ends.Cut = Err Off
+
 -- why bytes are not announced that could not be read back
 abbrev pub unread_by : StepNo → EndNo
 unread_by steps.Device = ends.Device

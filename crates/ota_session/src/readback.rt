@@ -5,6 +5,7 @@ ghost use Rattle.bus_hub.specs.declared.did.Base.{Base};
 ghost use Rattle.image_verify.specs.Bad.{bad};
 ghost use Rattle.image_verify.specs.Fed.{HasRead};
 ghost use Rattle.flash_ops.specs.Moves.{HasRun, read_moves};
+ghost use Rattle.flash_ops.specs.Periods.{HasPeriod, HasPeriods, read_periods};
 ghost use Rattle.flash_ops.specs.Told.{fault_of};
 ghost use Rattle.ota_session.specs.Stages.{IsWritten, image_of};
 ghost use Rattle.ota_session.specs.SessionTold.{found_as};
@@ -32,6 +33,8 @@ pub(crate) fn read_back<'w, 'a, R: Wait, D: Crash>(
 )
     requires written { IsWritten target.now core }
     ensures ran { HasRun 0 (read_moves target.now.length) (found_as result.1) core.entry result.0 }
+    ensures periods { HasPeriods (read_periods target.now.length) (found_as result.1)
+        core.entry result.0 }
     ensures exact { IfOk result.1 (λ found.
         bad target.now.size (image_of core.entry.base) ≡ found) }
 {
@@ -65,7 +68,10 @@ fn feed_period<'w, 'a, R: Wait, D: Crash>(
     requires written { IsWritten target.now core }
     requires within { done + count ≤ target.now.length }
     requires long { length out.old ≡ count }
+    requires some { 1 ≤ count }
+    requires most { count ≤ 4096 }
     ensures ran { HasRun 0 (read_moves count) (fault_of result.1) core.entry result.0 }
+    ensures period { HasPeriod 0 result.1 core.entry result.0 }
     ensures fed { OnOk result.1 ((limit : ℕ) (bytes : List ℕ) → HasRead verifier.old limit bytes
         → HasRead verifier.new limit
         (bytes ++ take count (drop done (image_of core.entry.base)))) }

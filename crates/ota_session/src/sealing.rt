@@ -1,13 +1,15 @@
 //! The end of a session: its bytes are read back, and only where they are a whole image can its entry
 //! be written.
 
-ghost use Rattle.std.specs.Prelude.{◌≡◌, ◌+◌, ◌≤◌, ◌<◌, ◌^◌, IfErr, IfOk, Ok, Err, OnOk, length};
+ghost use Rattle.std.specs.Prelude.{◌≡◌, ◌+◌, ◌≤◌, ◌<◌, ◌^◌, IfErr, IfOk, Ok, Err, OnOk, MatchResult, length};
 ghost use Rattle.bus_hub.specs.declared.did.Base.{Base};
 ghost use Rattle.flash_ops.specs.Asked.{CanLook, HasRoomFor};
 ghost use Rattle.flash_ops.specs.Moves.{HasRun};
+ghost use Rattle.nor_device.specs.declared.nor.NorFault.{NorFault as Why};
+ghost use Rattle.flash_ops.specs.Periods.{HasPeriods, read_periods};
 ghost use Rattle.flash_ops.specs.Told.{ToldOf};
 ghost use Rattle.ota_session.specs.Stages.{IsVerified, IsWriting, entry_moves, image_of};
-ghost use Rattle.ota_session.specs.SessionTold.{HasCounted, HasVerified, IsNotVerified, cause_of, unread_by};
+ghost use Rattle.ota_session.specs.SessionTold.{HasCounted, HasVerified, IsNotVerified, answered_by, cause_of, unread_by};
 
 use crate::duty::UpdateDuty;
 use crate::entries::rewrite_entry;
@@ -54,6 +56,11 @@ impl<'w, 'a, D: Crash> Ota<'w, D, UpdateDuty<'a>> {
         ensures ok { IfOk result (HasVerified self.entry) }
         ensures err { IfErr result (λ back. IsNotVerified (image_of self.entry.core.base) self.entry
             back.no back.core) }
+        ensures periods { MatchResult result
+            (λ sealed. HasPeriods {E = Why} (read_periods self.entry.written) (Ok tt)
+            self.entry.core sealed.core)
+            (λ back. HasPeriods (read_periods self.entry.written) (answered_by back.no)
+            self.entry.core back.core) }
     {
         let Ota {
             core,

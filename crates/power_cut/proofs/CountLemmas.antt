@@ -8,7 +8,7 @@ use Rattle.crash_images.specs.declared.cut.CutSetting.{CutSetting}
 use Rattle.crash_images.specs.Cut.{CutDevice, IsBad}
 use Rattle.mmu_map.specs.Map.{Map}
 use Rattle.bus_hub.specs.declared.did.Did.{Did}
-use Rattle.bus_hub.specs.declared.did.Did.TheVariants.{Opened, Closed, Broken, Fetched, Noted, Denied, Mapping, Unmapping, Missed, Masked}
+use Rattle.bus_hub.specs.declared.did.Did.TheVariants.{Opened, Closed, Broken, Fetched, Noted, Denied, Mapping, Unmapping, Missed, Masked, Unfetched}
 use Rattle.bus_hub.specs.declared.did.Running.{Running}
 use Rattle.bus_hub.specs.declared.duty.AnyDuty.{AnyDuty}
 use Rattle.bus_hub.specs.Hub.{begun}
@@ -46,6 +46,7 @@ module _ {K P : Type 0} (part : K → ℕ → P) (grants : P → Step → Type 0
   item_count s c (Unmapping at answer) = inr (refl, refl)
   item_count s c (Missed at len) = inr (refl, refl)
   item_count s c (Masked at len) = inr (refl, refl)
+  item_count s c (Unfetched at len why) = inr (refl, refl)
 
   -- so many steps were begun, where the count has not come to its end
   log_count : (s : State K) (log : List Item)
@@ -110,6 +111,8 @@ module _ {K P : Type 0} (part : K → ℕ → P) (grants : P → Step → Type 0
   item_made set s c (Missed at len) rest end rule whole later =
       omega (arith, later)
   item_made set s c (Masked at len) rest end rule whole later =
+      omega (arith, later)
+  item_made set s c (Unfetched at len why) rest end rule whole later =
       omega (arith, later)
 
   -- a step that was begun was made, or still runs

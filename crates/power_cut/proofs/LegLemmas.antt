@@ -14,7 +14,7 @@ use Rattle.rollback.specs.declared.rewrite.Rewrite.{Rewrite}
 use Rattle.mmu_map.specs.Map.{Map}
 use Rattle.bus_hub.specs.declared.did.Base.{Base}
 use Rattle.bus_hub.specs.declared.did.Did.{Did}
-use Rattle.bus_hub.specs.declared.did.Did.TheVariants.{Opened, Closed, Broken, Fetched, Noted, Denied, Mapping, Unmapping, Missed, Masked}
+use Rattle.bus_hub.specs.declared.did.Did.TheVariants.{Opened, Closed, Broken, Fetched, Noted, Denied, Mapping, Unmapping, Missed, Masked, Unfetched}
 use Rattle.bus_hub.specs.declared.did.Running.{Running}
 use Rattle.bus_hub.specs.declared.duty.AnyDuty.{AnyDuty}
 use Rattle.bus_hub.specs.Hub.{Fits, Hub, IsBaseOf, Stands, begun, state_of, step_of}
@@ -66,6 +66,7 @@ module _ {K P : Type 0} (part : K → ℕ → P) (grants : P → Step → Type 0
   rule_free set s c (Unmapping at answer) rule = rule
   rule_free set s c (Missed at len) rule = rule
   rule_free set s c (Masked at len) rule = rule
+  rule_free set s c (Unfetched at len why) rule = rule
 
   ruled_free : (set : CutSetting (Unit {0})) (s : State K) (log : List Item) → Keeps set s log
       → Ruled MayEnd MayTear MayRefuse MustRefuse any_part AnyGrants any_after set
@@ -106,6 +107,7 @@ module _ {K P : Type 0} (part : K → ℕ → P) (grants : P → Step → Type 0
     item_stays s c (Unmapping at answer) is = is
     item_stays s c (Missed at len) is = is
     item_stays s c (Masked at len) is = is
+    item_stays s c (Unfetched at len why) is = is
 
     log_stays : (s : State K) (log : List Item) → stays s.duty → stays (reached after s log).duty
     log_stays s [] is = is

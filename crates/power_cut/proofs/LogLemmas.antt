@@ -12,7 +12,7 @@ use Rattle.crash_images.specs.declared.cut.CutSetting.{CutSetting}
 use Rattle.crash_images.specs.Cut.{CutDevice, EndsBy, IsAhead, IsBad}
 use Rattle.bus_hub.specs.declared.did.Base.{Base}
 use Rattle.bus_hub.specs.declared.did.Did.{Did}
-use Rattle.bus_hub.specs.declared.did.Did.TheVariants.{Opened, Closed, Broken, Fetched, Noted, Denied, Mapping, Unmapping, Missed, Masked}
+use Rattle.bus_hub.specs.declared.did.Did.TheVariants.{Opened, Closed, Broken, Fetched, Noted, Denied, Mapping, Unmapping, Missed, Masked, Unfetched}
 use Rattle.bus_hub.specs.declared.did.Running.{Running}
 use Rattle.bus_hub.specs.Hub.{Hub, Stands, begun}
 use Rattle.bus_hub.specs.Log.{Item, Rule, Ruled, Runs, State, change, made_whole, of_core, reached}
@@ -71,6 +71,7 @@ module _ {K P : Type 0} (part : K → ℕ → P) (grants : P → Step → Type 0
   told_item set s c (Unmapping at answer) rule told = told
   told_item set s c (Missed at len) rule told = told
   told_item set s c (Masked at len) rule told = told
+  told_item set s c (Unfetched at len why) rule told = told
 
   pub told_log : (set : Choice) (s : State K) (log : List Item) → IsRuled set s log
       → Told set s → Told set (reached after s log)
@@ -108,6 +109,7 @@ module _ {K P : Type 0} (part : K → ℕ → P) (grants : P → Step → Type 0
       record { idle = is.idle; steps = is.steps }
   stopped_item set n s c (Missed at len) bad rule is = is
   stopped_item set n s c (Masked at len) bad rule is = is
+  stopped_item set n s c (Unfetched at len why) bad rule is = record { idle = is.idle; steps = is.steps }
 
   pub stopped_log : (set : Choice) (n : ℕ) (s : State K) (log : List Item) → Bad set n
       → IsRuled set s log → Stopped set n s → Stopped set n (reached after s log)
@@ -134,6 +136,10 @@ module _ {K P : Type 0} (part : K → ℕ → P) (grants : P → Step → Type 0
   refused_here set s c (Unmapping at answer) refusal rule = absurd refusal
   refused_here set s c (Missed at len) refusal rule = absurd refusal
   refused_here set s c (Masked at len) refusal rule = absurd refusal
+  refused_here set s c (Unfetched at len why) refusal rule = (
+    bad_end set s.steps why (refused_by_choice set s.steps why rule.1),
+    record { idle = rule.0; steps = refl },
+  )
 
   -- so the last step is a chosen one, where a refusal stands anywhere in what one core did
   share_in : (set : Choice) (c : ℕ) (did : Did) (back : List Did) (log : List Item)

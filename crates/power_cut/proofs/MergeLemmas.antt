@@ -12,7 +12,7 @@ use Rattle.crash_images.specs.declared.cut.CutSetting.{CutSetting}
 use Rattle.crash_images.specs.Cut.{CutDevice, IsAhead, IsBad}
 use Rattle.mmu_map.specs.Map.{Map}
 use Rattle.bus_hub.specs.declared.did.Did.{Did}
-use Rattle.bus_hub.specs.declared.did.Did.TheVariants.{Opened, Closed, Broken, Fetched, Noted, Denied, Mapping, Unmapping, Missed, Masked}
+use Rattle.bus_hub.specs.declared.did.Did.TheVariants.{Opened, Closed, Broken, Fetched, Noted, Denied, Mapping, Unmapping, Missed, Masked, Unfetched}
 use Rattle.bus_hub.specs.declared.did.Running.{Running}
 use Rattle.bus_hub.specs.declared.duty.AnyDuty.{AnyDuty}
 use Rattle.bus_hub.specs.Hub.{begun}
@@ -101,6 +101,7 @@ module _ {K P : Type 0} (part : K → ℕ → P) (grants : P → Step → Type 0
   item_left set s (Unmapping at answer) rule left right all merged = merged
   item_left set s (Missed at len) rule left right all merged = merged
   item_left set s (Masked at len) rule left right all merged = merged
+  item_left set s (Unfetched at len why) rule left right all merged = merged
 
   -- and one of core 1
   item_right : (set : CutSetting (Unit {0})) (s : State K) (did : Did) → Obeys set s 1 did
@@ -145,6 +146,7 @@ module _ {K P : Type 0} (part : K → ℕ → P) (grants : P → Step → Type 0
   item_right set s (Unmapping at answer) rule left right all merged = merged
   item_right set s (Missed at len) rule left right all merged = merged
   item_right set s (Masked at len) rule left right all merged = merged
+  item_right set s (Unfetched at len why) rule left right all merged = merged
 
   -- the steps that a log makes are those of both shares, merged
   pub merged_log : (set : CutSetting (Unit {0})) (s : State K) (log : List Item) → IsRuled set s log
@@ -187,6 +189,7 @@ module _ {K P : Type 0} (part : K → ℕ → P) (grants : P → Step → Type 0
   unbroken_by set s c (Unmapping at answer) log rule ruled sound later = later
   unbroken_by set s c (Missed at len) log rule ruled sound later = later
   unbroken_by set s c (Masked at len) log rule ruled sound later = later
+  unbroken_by set s c (Unfetched at len why) log rule ruled sound later = later
 
   pub unbroken_log : (set : CutSetting (Unit {0})) (s : State K) (log : List Item)
       → IsRuled set s log

@@ -1,7 +1,7 @@
 -- How many steps were begun.
 use Rattle.std.specs.Prelude.{ℕ, ◌+◌, List, [], ◌∷◌}
 use Rattle.bus_hub.specs.declared.did.Did.{Did}
-use Rattle.bus_hub.specs.declared.did.Did.TheVariants.{Opened, Closed, Broken, Fetched, Noted, Denied, Mapping, Unmapping, Missed, Masked}
+use Rattle.bus_hub.specs.declared.did.Did.TheVariants.{Opened, Closed, Broken, Fetched, Noted, Denied, Mapping, Unmapping, Missed, Masked, Unfetched}
 
 -- by an item
 abbrev pub opened_by : Did → ℕ
@@ -15,6 +15,7 @@ opened_by (Mapping flash_page n space answer) = 0
 opened_by (Unmapping at answer) = 0
 opened_by (Missed at len) = 0
 opened_by (Masked at len) = 0
+opened_by (Unfetched at len why) = 0
 
 -- in a share, or in a whole log
 abbrev pub opened_in : List Did → ℕ

@@ -1,8 +1,10 @@
-use Rattle.std.proofs.Common.{ap}
+use Rattle.std.proofs.Common.{ap, length}
 use Rattle.bus_hub.specs.declared.journal.Room.{Room}
 use Rattle.duo_run.specs.Jobs.{length_for, purpose_of}
-use Rattle.duo_run.proofs.BeginLemmas.{base_is, begins_can, begins_good, begins_placed, begins_short, few_entries}
-use Rattle.duo_run.proofs.OutcomeLemmas.{kept_base, kept_left, kept_right, outcome}
+use Rattle.duo_run.specs.Paced.{ops_for}
+use Rattle.duo_run.proofs.BeginLemmas.{base_is, begins_can, begins_good, begins_long, begins_placed, begins_short, few_entries}
+use Rattle.duo_run.proofs.OutcomeLemmas.{both_ends, kept_base, kept_left, kept_right, outcome}
+use Rattle.duo_run.proofs.PacedLemmas.{few_ops, told_leg}
 use Rattle.duo_run.proofs.both.leg.Goals as goal
 
 -- the pages of the application are in the flash
@@ -71,7 +73,7 @@ end_leg-requires-clause-left g c =
     c.args.dev c.requires.begins c.requires.core _ same c.in_ok-gates.gates c.in_ok-gates.left
     c.in_ok-gates.right c.run_cores-cores.result.0.0 c.run_cores-cores.result.0.1
     c.run_cores-cores.result.1.0 c.run_cores-cores.result.1.1 c.in_ok-gates.ensures.left
-    c.in_ok-gates.ensures.right c.run_cores-cores.ensures
+    c.in_ok-gates.ensures.right c.run_cores-cores.ensures.ran
 
 pub end_leg-requires-clause-right : goal.end_leg-requires-clause-right
 end_leg-requires-clause-right g c =
@@ -87,7 +89,7 @@ end_leg-requires-clause-right g c =
     c.args.dev c.requires.begins c.requires.core _ same c.in_ok-gates.gates c.in_ok-gates.left
     c.in_ok-gates.right c.run_cores-cores.result.0.0 c.run_cores-cores.result.0.1
     c.run_cores-cores.result.1.0 c.run_cores-cores.result.1.1 c.in_ok-gates.ensures.left
-    c.in_ok-gates.ensures.right c.run_cores-cores.ensures
+    c.in_ok-gates.ensures.right c.run_cores-cores.ensures.ran
 
 -- the device had so many steps at the opening
 pub end_leg-requires-clause-base : goal.end_leg-requires-clause-base
@@ -104,7 +106,7 @@ end_leg-requires-clause-base g c =
     c.args.dev c.requires.begins c.requires.core _ same c.in_ok-gates.gates c.in_ok-gates.left
     c.in_ok-gates.right c.run_cores-cores.result.0.0 c.run_cores-cores.result.0.1
     c.run_cores-cores.result.1.0 c.run_cores-cores.result.1.1 c.in_ok-gates.ensures.left
-    c.in_ok-gates.ensures.right c.run_cores-cores.ensures _ c.steps-before.ensures.exact
+    c.in_ok-gates.ensures.right c.run_cores-cores.ensures.ran _ c.steps-before.ensures.exact
 
 -- from the device to the device
 pub returns : goal.returns
@@ -122,7 +124,29 @@ returns g c =
           c.args.dev c.requires.begins c.requires.core _ same c.in_ok-gates.gates c.in_ok-gates.left
           c.in_ok-gates.right c.run_cores-cores.result.0.0 c.run_cores-cores.result.0.1
           c.run_cores-cores.result.1.0 c.run_cores-cores.result.1.1 c.in_ok-gates.ensures.left
-          c.in_ok-gates.ensures.right c.run_cores-cores.ensures _ c.whole_by.result c.end_leg.result
+          c.in_ok-gates.ensures.right c.run_cores-cores.ensures.ran _ c.whole_by.result c.end_leg.result
           c.steps-before.ensures.exact c.whole_by.ensures.exact c.end_leg.ensures.closed
           c.end_leg.ensures.parked;
+      told = λ ended.
+          let both = both_ends c.args.beside.now.table.now c.args.beside.now.script.now c.args.driver
+          c.args.layout.now (purpose_of c.args.job.now) c.args.offset c.args.info.now.segments.items
+          c.args.dev c.requires.begins c.requires.core _ same c.in_ok-gates.gates c.in_ok-gates.left
+          c.in_ok-gates.right c.run_cores-cores.result.0.0 c.run_cores-cores.result.0.1
+          c.run_cores-cores.result.1.0 c.run_cores-cores.result.1.1 c.in_ok-gates.ensures.left
+          c.in_ok-gates.ensures.right c.run_cores-cores.ensures.ran _ c.whole_by.result
+          c.end_leg.result c.steps-before.ensures.exact c.whole_by.ensures.exact
+          c.end_leg.ensures.closed c.end_leg.ensures.parked ended in
+          told_leg (g.P.Pace.told c.args.beside.now.pace.now)
+          (ops_for c.args.layout.now (purpose_of c.args.job.now))
+          (length c.args.beside.now.script.now) c.run_cores-cores.result.1.0
+          c.run_cores-cores.result.1.1
+          (few_ops c.args.layout.now (purpose_of c.args.job.now)
+          (begins_short c.args.beside.now.table.now c.args.beside.now.script.now c.args.driver
+          c.args.layout.now (purpose_of c.args.job.now) c.args.offset
+          c.args.info.now.segments.items c.args.dev c.requires.begins)
+          (begins_long c.args.beside.now.table.now c.args.beside.now.script.now c.args.driver
+          c.args.layout.now (purpose_of c.args.job.now) c.args.offset
+          c.args.info.now.segments.items c.args.dev c.requires.begins))
+          both.0 both.1 c.run_cores-cores.ensures.driver_told
+          c.run_cores-cores.ensures.worker_told;
     }

@@ -2,8 +2,12 @@
 use Rattle.std.proofs.Common.{◌≡◌, ◌≤◌, ◌∙◌, ap, sym, subst, arith, ℕ, Option, length, drop, length-drop}
 use Rattle.std.proofs.lemmas.Bool.Decides.{nat_tests}
 use Rattle.flash_ops.specs.Asked.{HasRoomFor}
-use Rattle.ota_session.specs.SessionTold.{HasWritten, IsNotWritten, piece_moves}
-use Rattle.duo_run.proofs.WriteAllLemmas.{round_done, round_next, round_refused, round_room, up_to_all}
+use Rattle.ota_session.specs.SessionTold.{HasWritten, IsNotWritten, piece_moves, piece_periods}
+use Rattle.flash_ops.specs.Told.{counted}
+use Rattle.flash_ops.proofs.Telling.{told_then}
+use Rattle.duo_run.specs.Paced.{pieces_of}
+use Rattle.duo_run.proofs.PacedLemmas.{piece_counts, pieces_counted, uncounted}
+use Rattle.duo_run.proofs.WriteAllLemmas.{round_done, round_first, round_next, round_period, round_refused, round_room, up_to_all, up_within}
 use Rattle.duo_run.proofs.driver.write_all.Goals as goal
 
 -- the next piece
@@ -45,6 +49,32 @@ returns-in-Err-clause-err g c =
     (subst (λ (p : Option ℕ). IsNotWritten p piece w c.in-Err.back.no c.in-Err.back.core)
     c.loop-rest.invariant.probe c.in-Err.ensures.err)
 
+-- before anything was counted, or as far as that
+pub returns-in-Err-clause-ops : goal.returns-in-Err-clause-ops
+returns-in-Err-clause-ops g c =
+    let w = c.loop-rest.ota in
+    let rest = c.loop-rest.rest.now in
+    let piece = c.split_at_most.result.0.now in
+    let some : 1 ≤ length rest =
+    grind (arith, nat_tests, c.is_empty.ensures, c.loop-rest-test.true) in
+    uncounted (piece_periods w piece) c.args.beat.now.ops c.loop-rest.beat.ops
+    c.write.new.beat.ops c.in-Err.back.no
+    (λ byte is. c.loop-rest.invariant.none
+    (round_first c.args.beat.now.probe c.args.image.now c.args.ota w rest piece
+    c.split_at_most.result.1.now c.loop-rest.invariant.up c.requires.nothing c.requires.long
+    c.split_at_most.ensures.first c.split_at_most.ensures.rest some c.in-Err.back.no
+    c.in-Err.back.core
+    (subst (λ (p : Option ℕ). IsNotWritten p piece w c.in-Err.back.no c.in-Err.back.core)
+    c.loop-rest.invariant.probe c.in-Err.ensures.err) byte is))
+    c.in-Err.ensures.ops
+
+pub returns-in-Err-clause-told : goal.returns-in-Err-clause-told
+returns-in-Err-clause-told g c =
+    let inv = c.loop-rest.invariant in
+    told_then (λ p. g.P.Pace.told p.now) c.args.beat.now.pace c.loop-rest.beat.pace
+    c.args.beat.now.ops c.loop-rest.beat.ops c.write.new.beat.ops inv.pace inv.told
+    c.write.ensures.told
+
 -- fewer bytes are left
 pub loop-rest-smaller : goal.loop-rest-smaller
 loop-rest-smaller g c =
@@ -72,6 +102,22 @@ loop-rest-preserved g c =
           c.in-Ok.ensures.ok);
       probe = c.write.ensures.probe ∙ inv.probe;
       pace = c.write.ensures.pace ∙ inv.pace;
+      ops = piece_counts c.loop-rest.beat.ops c.write.new.beat.ops
+          (counted c.args.beat.now.ops (pieces_of (length c.args.image.now))) rest
+          c.split_at_most.result.1.now (piece_periods w piece) c.split_at_most.ensures.rest some
+          (round_period c.args.beat.now.probe c.args.image.now c.args.ota w rest piece
+          c.split_at_most.result.1.now inv.up c.requires.nothing c.requires.long
+          c.split_at_most.ensures.first c.split_at_most.ensures.rest some)
+          c.in-Ok.ensures.ops inv.ops;
+      none = λ same.
+          let e : length c.split_at_most.result.1.now ≡ length (drop 4096 rest) =
+          ap length c.split_at_most.ensures.rest in
+          let f = length-drop 4096 rest in
+          let up = up_within c.args.beat.now.probe c.args.image.now c.args.ota w rest inv.up in
+          absurd (omega arith);
+      told = told_then (λ p. g.P.Pace.told p.now) c.args.beat.now.pace c.loop-rest.beat.pace
+          c.args.beat.now.ops c.loop-rest.beat.ops c.write.new.beat.ops inv.pace inv.told
+          c.write.ensures.told;
     }
 
 -- all is written
@@ -82,3 +128,13 @@ returns-clause-ok g c =
     grind (arith, nat_tests, c.is_empty.ensures, c.loop-rest-test.false) in
     up_to_all c.args.beat.now.probe c.args.image.now c.args.ota c.loop-rest.ota rest
     c.loop-rest.invariant.up c.requires.nothing gone
+
+-- each piece was counted
+pub returns-clause-ops : goal.returns-clause-ops
+returns-clause-ops g c =
+    let rest = c.loop-rest.rest.now in
+    let gone : length rest ≡ 0 =
+    grind (arith, nat_tests, c.is_empty.ensures, c.loop-rest-test.false) in
+    pieces_counted c.loop-rest.beat.ops
+    (counted c.args.beat.now.ops (pieces_of (length c.args.image.now))) rest gone
+    c.loop-rest.invariant.ops

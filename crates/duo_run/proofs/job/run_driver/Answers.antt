@@ -10,9 +10,9 @@ drive-core-requires g c = record {
 }
 
 -- from rest to rest it only did it
-pub returns : goal.returns
-returns g c =
+pub returns-clause-driven : goal.returns-clause-driven
+returns-clause-driven g c =
     rw c.ended.ensures
     (driven_kept c.args.layout.now (purpose_of c.args.job.now) c.args.probe
     c.drive-core.result.1 c.args.core c.start.result c.drive-core.result.0 c.rest.result
-    c.start.ensures.keeps c.drive-core.ensures c.rest.ensures.keeps)
+    c.start.ensures.keeps c.drive-core.ensures.driven c.rest.ensures.keeps)

@@ -4,7 +4,6 @@ use Rattle.mmu_map.specs.Map.{Map, IsFreeRun, IsWhole, empty, fixed}
 use Rattle.mmu_map.proofs.Empty.{empty_is_free}
 use Rattle.mmu_map.proofs.Addresses.{empty_good}
 use Rattle.nor_device.specs.declared.ram.RamNor.{RamNor}
-use Rattle.bus_hub.specs.declared.duty.AnyDuty.{AnyDuty}
 use Rattle.bus_hub.specs.Hub.{Hub}
 use Rattle.bus_hub.specs.Fetch.{IsFixed, IsServed}
 use Rattle.bus_hub.proofs.Fixing.{range_there}
@@ -31,9 +30,9 @@ returns-in-Ok-open-clause-look c =
     let pages = c.new-pages.result in
     let whole : IsWhole pages = subst IsWhole (sym c.new-pages.ensures.exact) empty_good in
     let map_is : bus.map ≡ fixed pages 0x3F400000 0 1 =
-    ap (λ (h : Hub RamNor AnyDuty). h.map) c.new-bus.ensures.exact ∙ c.fix.ensures.exact in
+    ap (λ (h : Hub RamNor _). h.map) c.new-bus.ensures.exact ∙ c.fix.ensures.exact in
     let size_is : length bus.dev.bytes ≡ 1048576 =
-    ap (λ (h : Hub RamNor AnyDuty). length h.dev.bytes) c.new-bus.ensures.exact
+    ap (λ (h : Hub RamNor _). length h.dev.bytes) c.new-bus.ensures.exact
     ∙ (ap length c.of_bytes.ensures.bytes ∙ c.in-Ok.ensures.length) in
     look_first _ 0 0x3F400000 _ _ c.in-Ok-open.ensures.left
     (subst (λ (z : Map × ℕ). IsFixed z.0 z.1 0x3F400000 4) (λ i. (sym map_is i, sym size_is i))

@@ -4,7 +4,8 @@ use Rattle.image_verify.specs.Fed.{HasRead}
 use Rattle.flash_ops.specs.declared.refusal.StepNo.{StepNo}
 use Rattle.flash_ops.specs.Moves.{HasRun, read_moves}
 use Rattle.flash_ops.specs.Told.{fault_of}
-use Rattle.ota_session.proofs.ReadBackLemmas.{fed_image, inside_slot, small_slot}
+use Rattle.flash_ops.specs.Periods.{HasPeriod, HasPeriods, read_periods}
+use Rattle.ota_session.proofs.ReadBackLemmas.{fed_image, inside_slot, one_read, small_slot}
 use Rattle.ota_session.proofs.readback.feed_period.Goals as goal
 
 pub overflow_add-target : goal.overflow_add-target
@@ -27,6 +28,23 @@ returns-in-Err-clause-ran g c =
     c.args.core c.read-core.result.0) c.in-Err.is
     (subst (λ (n : ℕ). HasRun 0 (read_moves n) (fault_of c.read-core.result.1) c.args.core
     c.read-core.result.0) c.requires.long (c.read-core.ensures.ran 0))
+
+-- its one quiet period shows
+pub returns-in-Err-clause-period : goal.returns-in-Err-clause-period
+returns-in-Err-clause-period g c =
+    subst (λ (r : Result (Unit {0}) StepNo). HasPeriod 0 r c.args.core c.read-core.result.0)
+    c.in-Err.is
+    (one_read c.args.count c.read-core.result.1 c.args.core c.read-core.result.0 c.requires.some
+    c.requires.most (subst (λ (n : ℕ). HasPeriods (read_periods n) c.read-core.result.1
+    c.args.core c.read-core.result.0) c.requires.long c.read-core.ensures.periods))
+
+pub returns-clause-period : goal.returns-clause-period
+returns-clause-period g c =
+    subst (λ (r : Result (Unit {0}) StepNo). HasPeriod 0 r c.args.core c.read-core.result.0)
+    c.in_default.is
+    (one_read c.args.count c.read-core.result.1 c.args.core c.read-core.result.0 c.requires.some
+    c.requires.most (subst (λ (n : ℕ). HasPeriods (read_periods n) c.read-core.result.1
+    c.args.core c.read-core.result.0) c.requires.long c.read-core.ensures.periods))
 
 pub returns-clause-ran : goal.returns-clause-ran
 returns-clause-ran g c =

@@ -1,4 +1,4 @@
-use Rattle.duo_run.proofs.DuoLemmas.{affirm_begins, affirm_row, affirmed_ok}
+use Rattle.duo_run.proofs.DuoLemmas.{affirm_begins, affirm_row, affirmed_ok, told_as}
 use Rattle.duo_run.proofs.duo.Duo.confirm.Goals as goal
 
 -- the application that runs has a partition
@@ -25,4 +25,7 @@ returns g c = record {
       c.layout_of-layout.ensures c.place-row.result c.beside.result.table.now
       c.beside.result.script.now c.leg.result c.place-row.ensures.exact c.beside.ensures.table
       c.beside.ensures.script c.leg.ensures.leg;
+  told = told_as (λ p. g.P.Pace.told p) 2 c.beside.result.script.now
+      c.args.self.now.script.now c.beside.result.pace.now c.args.self.now.pace.now c.leg.result
+      c.beside.ensures.script c.beside.ensures.pace c.leg.ensures.told;
 }

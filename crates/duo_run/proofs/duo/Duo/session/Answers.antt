@@ -1,4 +1,4 @@
-use Rattle.duo_run.proofs.DuoLemmas.{install_begins, install_row, installed_ok}
+use Rattle.duo_run.proofs.DuoLemmas.{install_begins, install_row, installed_ok, installed_told}
 use Rattle.duo_run.proofs.duo.Duo.session.Goals as goal
 
 -- the application that runs has a partition
@@ -25,4 +25,9 @@ returns g c = record {
       c.layout_of-layout.ensures c.place-row.result c.beside.result.table.now
       c.beside.result.script.now c.leg.result c.place-row.ensures.exact c.beside.ensures.table
       c.beside.ensures.script c.leg.ensures.leg;
+  told = installed_told (λ p. g.P.Pace.told p) c.args.self.now.table.now
+      c.layout_of-layout.result c.args.aim.now c.args.image.now c.layout_of-layout.ensures
+      c.beside.result.script.now c.args.self.now.script.now c.beside.result.pace.now
+      c.args.self.now.pace.now c.leg.result c.beside.ensures.script c.beside.ensures.pace
+      c.leg.ensures.told;
 }
