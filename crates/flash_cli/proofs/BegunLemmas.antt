@@ -4,7 +4,7 @@ use Rattle.core_state.specs.declared.registers.Regs.{Regs}
 use Rattle.nor_device.specs.declared.step.Step.{Step}
 use Rattle.nor_device.specs.declared.nor.NorFault.{NorFault}
 use Rattle.bus_hub.specs.declared.did.Did.{Did}
-use Rattle.bus_hub.specs.declared.did.Did.TheVariants.{Opened, Closed, Broken, Fetched, Noted, Denied, Mapping, Unmapping, Missed, Masked}
+use Rattle.bus_hub.specs.declared.did.Did.TheVariants.{Opened, Closed, Broken, Fetched, Noted, Denied, Mapping, Unmapping, Missed, Masked, Unfetched}
 use Rattle.bus_hub.specs.Log.{Item, of_core}
 use Rattle.bus_hub.specs.Shares.{all_of}
 use Rattle.flash_ops.specs.Moves.{Ask, Follows, Look, Make, Move, Ran as HasMoved, Stops, steps_of}
@@ -22,6 +22,7 @@ begun_by (Mapping flash_page n space answer) = []
 begun_by (Unmapping at answer) = []
 begun_by (Missed at len) = []
 begun_by (Masked at len) = []
+begun_by (Unfetched at len why) = []
 
 -- those that a share begins, in order
 abbrev pub begun_in : List Did → List Step
@@ -103,6 +104,7 @@ none_begun (Mapping flash_page n space answer ∷ share) none =
 none_begun (Unmapping at answer ∷ share) none = none_begun share (omega (arith, none))
 none_begun (Missed at len ∷ share) none = none_begun share (omega (arith, none))
 none_begun (Masked at len ∷ share) none = none_begun share (omega (arith, none))
+none_begun (Unfetched at len why ∷ share) none = none_begun share (omega (arith, none))
 
 -- the first of both lists is empty where the lists joined are
 front_none : (front back : List Step) → front ++ back ≡ [] → front ≡ []

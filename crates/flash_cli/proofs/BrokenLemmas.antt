@@ -15,7 +15,7 @@ use Rattle.crash_images.specs.Tear.{torn_by}
 use Rattle.crash_images.proofs.CutLaws.{chosen_tears}
 use Rattle.mmu_map.specs.Map.{Map}
 use Rattle.bus_hub.specs.declared.did.Did.{Did}
-use Rattle.bus_hub.specs.declared.did.Did.TheVariants.{Opened, Closed, Broken, Fetched, Noted, Denied, Mapping, Unmapping, Missed, Masked}
+use Rattle.bus_hub.specs.declared.did.Did.TheVariants.{Opened, Closed, Broken, Fetched, Noted, Denied, Mapping, Unmapping, Missed, Masked, Unfetched}
 use Rattle.bus_hub.specs.declared.did.Running.{Running}
 use Rattle.bus_hub.specs.declared.duty.AnyDuty.{AnyDuty}
 use Rattle.bus_hub.specs.Hub.{begun}
@@ -107,6 +107,8 @@ module _ {K P : Type 0} (part : K → ℕ → P) (grants : P → Step → Type 0
   rests_item s c (Missed at len) bad idle rule =
       record { none = refl; flash = refl; idle = idle; steps = refl }
   rests_item s c (Masked at len) bad idle rule =
+      record { none = refl; flash = refl; idle = idle; steps = refl }
+  rests_item s c (Unfetched at len why) bad idle rule =
       record { none = refl; flash = refl; idle = idle; steps = refl }
 
   -- and so does a log
@@ -226,6 +228,7 @@ module _ {K P : Type 0} (part : K → ℕ → P) (grants : P → Step → Type 0
   ends_item s c (Unmapping at answer) log rule ruled later = later
   ends_item s c (Missed at len) log rule ruled later = later
   ends_item s c (Masked at len) log rule ruled later = later
+  ends_item s c (Unfetched at len why) log rule ruled later = later
 
   -- a log behind which no step runs
   log_ends : (s : State K) (log : List Item) → IsRuled s log
@@ -264,6 +267,7 @@ module _ {K P : Type 0} (part : K → ℕ → P) (grants : P → Step → Type 0
   item_counts s c (Unmapping at answer) small = omega arith
   item_counts s c (Missed at len) small = omega arith
   item_counts s c (Masked at len) small = omega arith
+  item_counts s c (Unfetched at len why) small = omega arith
 
   -- each step that is begun is counted, as long as the count can show them
   log_counts : (s : State K) (log : List Item)

@@ -23,6 +23,7 @@ pub mod BegunLemmas
 pub mod BrokenLemmas
 pub mod CutLemmas
 pub mod RunLemmas
+pub mod PacedLemmas
 pub mod UpdateLaws
 pub mod SweepCountLemmas
 pub mod SweepLemmas

@@ -9,7 +9,7 @@ use Rattle.bus_hub.specs.declared.entry.Entry.{Entry}
 use Rattle.bus_hub.specs.declared.did.Base.{Base}
 use Rattle.bus_hub.specs.declared.did.Running.{Running}
 use Rattle.bus_hub.specs.declared.did.Did.{Did}
-use Rattle.bus_hub.specs.declared.did.Did.TheVariants.{Opened, Closed, Broken, Fetched, Noted, Denied, Mapping, Unmapping, Missed, Masked}
+use Rattle.bus_hub.specs.declared.did.Did.TheVariants.{Opened, Closed, Broken, Fetched, Noted, Denied, Mapping, Unmapping, Missed, Masked, Unfetched}
 use Rattle.bus_hub.specs.declared.duty.AnyDuty.{AnyDuty}
 use Rattle.bus_hub.specs.Log.{IsPlain, Rule, State, change, made_whole}
 use Rattle.bus_hub.specs.Hub.{Hub, begun}
@@ -96,6 +96,7 @@ change_inside set s c (Mapping page n space answer) core rule inside = inside
 change_inside set s c (Unmapping at answer) core rule inside = inside
 change_inside set s c (Missed at len) core rule inside = inside
 change_inside set s c (Masked at len) core rule inside = inside
+change_inside set s c (Unfetched at len why) core rule inside = inside
 
 -- so is the journal of a leg
 pub leg_readable : (h : Hub (CutDevice Ram) AnyDuty) (base : Base (CutSetting (Unit {0})) AnyDuty)

@@ -24,6 +24,7 @@ pub mod TableShow
 pub mod FlashMake
 pub mod Report
 pub mod Updating
+pub mod Paced
 pub mod Sweeping
 pub mod Served
 pub mod Laws

@@ -10,10 +10,12 @@ ghost use Rattle.power_cut.specs.Device.{IsReady};
 ghost use Rattle.power_cut.specs.Update.{BootsEither, Opens};
 ghost use Rattle.power_cut.specs.Whole.{AreDone, BootsNew, IsTrial};
 ghost use Rattle.duo_run.specs.Both.{HasTable};
+ghost use Rattle.duo_run.specs.Paced.{IsToldLeg, session_ops};
 ghost use Rattle.duo_run.specs.Legs.{IsDuoConfirm, IsDuoSession, MayAffirm, MayInstall};
 ghost use Rattle.flash_cli.specs.Opening.{AreOptions, IsBegun, IsFresh, opening_with};
 ghost use Rattle.flash_cli.specs.Served.{AreReadable};
 ghost use Rattle.flash_cli.specs.Updating.{IsUpdate};
+ghost use Rattle.flash_cli.specs.Paced.{IsPaced};
 
 use crate::device::POLLS;
 use crate::opening::Opening;
@@ -45,6 +47,8 @@ pub(crate) fn run<P: Pace + Sync, R: Threads + Wait + Sync>(
     requires begun { IsBegun image.now opening }
     ensures update { IfOk result (IsUpdate options.now (opening_with image.now opening)) }
     ensures readable { IfOk result AreReadable }
+    ensures told { IfOk result
+        (IsPaced (P.told pace.now) options.now (opening_with image.now opening)) }
 {
     let Opening {
         flash,
@@ -94,6 +98,11 @@ fn run_legs<P: Pace + Sync, R: Threads + Wait + Sync>(
         (entries_in layout.now t.flash.items) (Some t.after)) }
     ensures installed { IfOk result (λ t. upto ≢ Upto.Boot → AreDone t.legs.items
         → BootsNew layout.now aim.now image.now t.flash.items) }
+    ensures told { IfOk result (λ t. IsTrial
+        (λ ran. IsToldLeg (P.told duo.now.pace.now)
+        (session_ops layout.now aim.now image.now) (length duo.now.script.now) ran)
+        (λ d at write ran. IsToldLeg (P.told duo.now.pace.now) 2 (length duo.now.script.now) ran)
+        layout.now device.inner.bytes aim.now image.now upto t) }
 {
     let session = |dev: CutNor<RamNor>, aim: &Aim, image: &[u8]| -> Result<Ran, Memory>
         requires core { duo.now.driver < 2 }
@@ -103,6 +112,10 @@ fn run_legs<P: Pace + Sync, R: Threads + Wait + Sync>(
             → layout_of duo.entry.now.table.now ≡ Ok layout
             → IsDuoSession duo.entry.now.table.now duo.entry.now.script.now
             duo.entry.now.driver layout aim.now image.now dev ran) }
+        ensures told { IfOk result (λ ran. (layout : Places)
+            → layout_of duo.entry.now.table.now ≡ Ok layout
+            → IsToldLeg (P.told duo.entry.now.pace.now) (session_ops layout aim.now image.now)
+            (length duo.entry.now.script.now) ran) }
     { duo.session(rt, alloc, dev, aim, image) };
     let confirm = |dev: CutNor<RamNor>, at: &Booted, write: &Rewrite| -> Result<Ran, Memory>
         requires core { duo.now.driver < 2 }
@@ -112,6 +125,8 @@ fn run_legs<P: Pace + Sync, R: Threads + Wait + Sync>(
             → layout_of duo.entry.now.table.now ≡ Ok layout
             → IsDuoConfirm duo.entry.now.table.now duo.entry.now.script.now
             duo.entry.now.driver layout at.now write.now dev ran) }
+        ensures told { IfOk result
+            (IsToldLeg (P.told duo.entry.now.pace.now) 2 (length duo.entry.now.script.now)) }
     { duo.confirm(rt, alloc, dev, at, write) };
     trial(device, layout, aim, image, upto, &Legs { session, confirm })
 }

@@ -10,6 +10,7 @@ ghost use Rattle.flash_cli.specs.SweepWords.{IsPlain, asked_sweep, shown_sweep};
 ghost use Rattle.flash_cli.specs.Status.{IsWork, IsDevices};
 ghost use Rattle.flash_cli.specs.Report.{EndsWhole, EndsBeforeText, EndsInText, EndsEarly};
 ghost use Rattle.flash_cli.specs.Updating.{UpdateEnds};
+ghost use Rattle.flash_cli.specs.Paced.{IsPacedUpdate};
 ghost use Rattle.flash_cli.specs.Sweeping.{SweepEnds};
 
 use crate::served::{Served, end_update, refuse_call};
@@ -56,6 +57,10 @@ pub(crate) fn serve<S: Store, K: Sink, P: Pace + Sync, R: Threads + Wait + Sync>
     ensures update { IfSome (asked_update words.now) (λ u. UpdateEnds (S.files store.old) u
         result.status result.trial (S.files store.new) (K.pushed out.old) (K.pushed out.new)) }
 
+    // The pace was told of all that an update did, where nothing broke off.
+    ensures told { IfSome (asked_update words.now) (λ u. IfSome result.trial
+        (IsPacedUpdate (P.told pace.now) (S.files store.old) u)) }
+
     // A sweep ends by what boots behind its cuts, or by its refusal, and puts no file.
     ensures sweep { IfSome (asked_sweep words.now) (λ s. SweepEnds (S.files store.old) s
         result.status (S.files store.new) (K.pushed out.old) (K.pushed out.new)) }
@@ -94,6 +99,8 @@ fn serve_update<S: Store, K: Sink, P: Pace + Sync, R: Threads + Wait + Sync>(
     requires options { AreOptions update.now.options }
     ensures ends { UpdateEnds (S.files store.old) (shown_update update.now) result.status
         result.trial (S.files store.new) (K.pushed out.old) (K.pushed out.new) }
+    ensures told { IfSome result.trial
+        (IsPacedUpdate (P.told pace.now) (S.files store.old) (shown_update update.now)) }
     ensures store_fault { result.status ≡ Status.StoreFault
         → Rose (S.faults store.old) (S.faults store.new) }
     ensures sink_fault { result.status ≡ Status.SinkFault

@@ -5,6 +5,7 @@ ghost use Rattle.flash_cli.specs.Opening.{AreOptions};
 ghost use Rattle.flash_cli.specs.Served.{AreReadable};
 ghost use Rattle.flash_cli.specs.UpdateWords.{shown_update};
 ghost use Rattle.flash_cli.specs.Updating.{IsUpdateEnd, UpdateOf};
+ghost use Rattle.flash_cli.specs.Paced.{IsPacedUpdate, PacedOf};
 
 use crate::error::{CommandError, Failure};
 use crate::files::needed_file;
@@ -30,6 +31,8 @@ pub(crate) fn run_update<S: Store, P: Pace + Sync, R: Threads + Wait + Sync>(
     ensures exact { IsUpdateEnd (S.files store.old) (shown_update update.now)
         (S.faults store.old) (S.faults store.new) result }
     ensures readable { IfOk result AreReadable }
+    ensures told { IfOk result
+        (IsPacedUpdate (P.told pace.now) (S.files store.old) (shown_update update.now)) }
     ensures same { S.files store.new ≡ S.files store.old }
     ensures later { S.faults store.old ≤ S.faults store.new }
 {
@@ -52,6 +55,8 @@ fn update_of<P: Pace + Sync, R: Threads + Wait + Sync>(
     requires options { AreOptions options.now }
     ensures exact { UpdateOf flash.items image.now text.now options.now result }
     ensures readable { IfOk result AreReadable }
+    ensures told { IfOk result
+        (PacedOf (P.told pace.now) flash.items image.now text.now options.now) }
 {
     let opening = opened(alloc, flash, image, text)?;
     match run(rt, alloc, opening, image, options, pace) {

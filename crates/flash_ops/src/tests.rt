@@ -269,7 +269,11 @@ fn a_driver_beside_a_resting_core(rt: HostRuntime) -> Result<(), Fail> {
     );
     assert_eq!(rt; entries[7], look_at(4), "a look");
     assert_eq!(rt; out, [0xFF, 0x12, 0x34, 0x56], "read back");
-    assert_eq!(rt; (points, ops), (1962997, 2), "points and steps, and periods");
+    assert_eq!(rt;
+        (points, ops),
+        (1962997, 2),
+        "points and steps, and periods"
+    );
     Ok(())
 }
 

@@ -3,6 +3,7 @@ use Rattle.std.proofs.lemmas.List.Elements.{All-from_get_or}
 use Rattle.power_cut.specs.Update.{Opens}
 use Rattle.duo_run.specs.Both.{HasTable}
 use Rattle.duo_run.proofs.OpeningLemmas.{aimed_opens}
+use Rattle.flash_cli.proofs.PacedLemmas.{paced_legs}
 use Rattle.flash_cli.proofs.RunLemmas.{made_by, update_of, update_readable}
 use Rattle.flash_cli.proofs.running.run.Goals as goal
 
@@ -50,3 +51,10 @@ pub returns-clause-readable : goal.returns-clause-readable
 returns-clause-readable g c =
     update_readable c.args.options.now c.args.opening c.args.image.now c.run_legs.result
     (returns-clause-update g c)
+
+-- and the pace was told of its legs
+pub returns-clause-told : goal.returns-clause-told
+returns-clause-told g c =
+    paced_legs (g.P.Pace.told c.args.pace.now) c.args.options.now c.args.opening
+    c.args.image.now c.chosen_device-device.result c.run_legs.result c.requires.begun
+    c.chosen_device-device.ensures.fresh.bytes c.run_legs.ensures.told

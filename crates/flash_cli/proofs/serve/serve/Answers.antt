@@ -12,3 +12,8 @@ returns-in-Some-clause-update g c =
 pub returns-in-Some-clause-sweep : goal.returns-in-Some-clause-sweep
 returns-in-Some-clause-sweep g c =
     no_sweep c.args.words.now (shown_update c.in-Some.update) _ c.in-Some.ensures.exact
+
+-- and the pace was told of it
+pub returns-in-Some-clause-told : goal.returns-in-Some-clause-told
+returns-in-Some-clause-told g c =
+    asked_so _ (shown_update c.in-Some.update) _ c.in-Some.ensures.exact c.serve_update.ensures.told

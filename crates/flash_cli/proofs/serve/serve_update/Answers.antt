@@ -1,5 +1,6 @@
+use Rattle.std.proofs.Common.{sym}
 use Rattle.flash_cli.specs.UpdateWords.{shown_update}
-use Rattle.flash_cli.proofs.ServedLemmas.{update_told, update_unmade}
+use Rattle.flash_cli.proofs.ServedLemmas.{asked_so, update_told, update_unmade}
 use Rattle.flash_cli.proofs.serve.serve_update.Goals as goal
 
 -- the update was made
@@ -15,3 +16,8 @@ returns-in-Err-clause-ends g c =
     update_unmade (shown_update c.args.update.now) (g.S.Store.files c.args.store.now) _ _
     c.in-Err.error _ _ _ _ _ c.refuse_call.ensures.trial c.in-Err.ensures.exact
     c.in-Err.ensures.same c.refuse_call.ensures.ends
+
+-- the pace was told of it
+pub returns-in-Ok-clause-told : goal.returns-in-Ok-clause-told
+returns-in-Ok-clause-told g c =
+    asked_so _ c.in-Ok.trial _ (sym c.end_update.ensures.trial) c.in-Ok.ensures.told
