@@ -82,10 +82,21 @@ fn layout_of(slots: usize) -> Option<Layout>
     requires { slots ≤ 3 }
     ensures placed { IfSome result (λ layout. IsPlaced layout 0x100000) }
 {
+    flagged_layout(slots, 0)
+}
+
+/// A layout of so many slots, the first of them with these flags.
+fn flagged_layout(slots: usize, flags: u32) -> Option<Layout>
+    ensures placed { IfSome result (λ layout. IsPlaced layout 0x100000) }
+{
+    if slots > 3 {
+        return None;
+    }
+    let first = row(0, 0x10, 0x20000, 0x10000);
     let rows = [
         row(1, 0x00, 0xD000, 0x2000),
         row(0, 0x00, 0x10000, 0x10000),
-        row(0, 0x10, 0x20000, 0x10000),
+        Row { flags, ..first },
         row(0, 0x11, 0x30000, 0x10000),
         row(0, 0x12, 0x40000, 0x10000),
     ];
@@ -374,6 +385,57 @@ fn an_update_aims_at_a_slot_and_an_entry(rt: HostRuntime) -> Result<(), Fail> {
         Err(AimNo::Conflict { slot: 0 }),
         "the only slot runs"
     );
+    Ok(())
+}
+
+#[test]
+fn an_update_is_refused_for_its_first_reason(rt: HostRuntime) -> Result<(), Fail> {
+    let waits = AimNo::NotSettled(Unsettled::Waiting {
+        entry: 0,
+        state: PENDING_VERIFY,
+    });
+    let large = AimNo::TooLarge {
+        need: 0x10001,
+        limit: 0x10000,
+    };
+    let last = entry(0xFFFF_FFFE, VALID, 0x99F8_B879);
+    for (slots, flags, first, want, why) in [
+        (1, 3, one(PENDING_VERIFY), waits, "before the only slot"),
+        (
+            1,
+            3,
+            one(VALID),
+            AimNo::Conflict { slot: 0 },
+            "before its flags",
+        ),
+        (
+            2,
+            5,
+            last,
+            AimNo::SlotFlags { slot: 0, flags: 5 },
+            "encrypted, before the sequence",
+        ),
+        (
+            2,
+            2,
+            blank(),
+            AimNo::SlotFlags { slot: 0, flags: 2 },
+            "readonly, before the length",
+        ),
+        (
+            2,
+            4,
+            last,
+            AimNo::SeqSpent { seq: 4_294_967_294 },
+            "before the length",
+        ),
+        (2, 4, blank(), large, "at last"),
+    ] {
+        let layout = flagged_layout(slots, flags).ok_or("a layout")?;
+        let whole = [true, true, true];
+        let mut device = device_of(rt.alloc(), &first, &blank(), whole, None, 0)?;
+        assert_eq!(rt; aimed(&mut device, &layout, 0x10001), Err(want), "{why}");
+    }
     Ok(())
 }
 

@@ -1,13 +1,13 @@
 //! Texts from outside: each refusal by its line, and the lines of a sweep.
 
-use crate::{Refusal, put_refusal, put_sweep};
+use crate::{Refusal, put_image, put_refusal, put_sweep};
 use arrayvec::ArrayVec;
 use boot_run::Booted;
 use boot_select::Unsettled;
 use core_script::ScriptWhy;
 use image_maker::{MakeNo, PlanWhy};
-use image_verify::{BadImage, ImageInfo};
-use part_csv::CsvWhy;
+use image_verify::{BadImage, ImageInfo, verify_slot};
+use part_csv::{CsvNo, CsvWhy, read_csv};
 use partition_table::{App, TableBad};
 use power_cut::Sweep;
 use std::alloc::Global;
@@ -267,6 +267,96 @@ fn each_refusal_has_its_line(rt: HostRuntime) -> Result<(), Fail> {
     }
     for (why, text) in of_boots() {
         assert_eq!(rt; is_line(rt.alloc(), why, text)?, true, "{text}");
+    }
+    Ok(())
+}
+
+/// Sources of tables, each with what is wrong with it.
+fn sources<'a>() -> [(&'a str, &'a str); 9] {
+    [
+        ("a,data,nvs,,4K,,x", "csv record 1 fields"),
+        (",data,nvs,,4K", "csv record 1 name"),
+        ("# a\n\na,apple,nvs,,4K", "csv record 2 kind"),
+        ("a,app,,,1M", "csv record 1 subtype"),
+        ("a,data,nvs,x,4K", "csv record 1 offset"),
+        ("a,data,nvs,,4G", "csv record 1 size"),
+        ("a,data,nvs,,4K,read", "csv record 1 flag"),
+        ("a,data,nvs,,4K\na,app,1,,64K", "csv record 2 samename"),
+        ("a,app,test,,64K\nb,app,32,,64K", "table two rows 0 1"),
+    ]
+}
+
+/// Why a source means no table, where it means none.
+fn refused_source(alloc: Global, text: &str) -> Option<Refusal> {
+    match read_csv(alloc, text.as_bytes(), 0x40_0000) {
+        Ok(_) => None,
+        Err(CsvNo::At { number, why }) => Some(Refusal::Csv { number, why }),
+        Err(CsvNo::Rules(why)) => Some(Refusal::Table(why)),
+        Err(CsvNo::Memory) => None,
+    }
+}
+
+#[test]
+fn each_fault_of_a_source_has_its_line(rt: HostRuntime) -> Result<(), Fail> {
+    let alloc = rt.alloc();
+    for (source, text) in sources() {
+        let why = refused_source(alloc, source).ok_or(text)?;
+        assert_eq!(rt; is_line(alloc, why, text)?, true, "{text}");
+    }
+    let mut many = String::new(alloc);
+    for i in 0..95 {
+        let line = format!(in alloc; "r{i},data,nvs,,4K\n")?;
+        many.push_str(line.as_str())?;
+    }
+    let why = refused_source(alloc, many.as_str()).ok_or("95 rows")?;
+    let text = "csv record 95 toomanyrows";
+    assert_eq!(rt; is_line(alloc, why, text)?, true, "{text}");
+    Ok(())
+}
+
+/// Bytes with others at a place, as far as there is one.
+fn write(out: &mut [u8], at: usize, part: &[u8]) {
+    if at <= out.len() && part.len() <= out.len() - at {
+        out[at..at + part.len()].copy_from_slice(part);
+    }
+}
+
+/// An image without a digest whose one segment is a description with this first byte of its mark, by
+/// esptool's "Firmware Image Format" and `esp_app_desc_t` of ESP-IDF; its last byte is the checksum.
+fn described(mark: u8, checksum: u8) -> [u8; 128] {
+    let mut image = [0; 128];
+    write(&mut image, 0, &[0xE9, 0x01, 0x02, 0x20]);
+    write(&mut image, 24, &[0x20, 0x00, 0x40, 0x3F, 80]);
+    write(&mut image, 32, &[mark, 0x54, 0xCD, 0xAB]);
+    write(&mut image, 48, b"1.2 \x7F~");
+    write(&mut image, 80, b"app");
+    write(&mut image, 127, &[checksum]);
+    image
+}
+
+/// The lines of such an image.
+const DESCRIBED: &str = "segment 0 0x3F400020 80 data
+length 128
+digest no
+version 1.2 ?~
+project app
+";
+
+/// The same where there is no description.
+const BARE: &str = "segment 0 0x3F400020 80 data
+length 128
+digest no
+version -
+project -
+";
+
+#[test]
+fn an_image_has_the_lines_of_its_description(rt: HostRuntime) -> Result<(), Fail> {
+    for (mark, checksum, want) in [(0x32, 0x82, DESCRIBED), (0x33, 0x83, BARE)] {
+        let info = verify_slot(&described(mark, checksum)).ok_or("an image")?;
+        let mut text = Vec::new(rt.alloc());
+        put_image(&mut text, &info)?;
+        assert_eq!(rt; text.as_slice() == want.as_bytes(), true, "{want}");
     }
     Ok(())
 }

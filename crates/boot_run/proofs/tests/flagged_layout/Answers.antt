@@ -2,7 +2,7 @@ use Rattle.std.proofs.Common.{IfSome, Result, Ok, Err, IfOk, subst, sym}
 use Rattle.std.specs.Result.{result_ok}
 use Rattle.partition_table.specs.declared.bad.TableBad.{TableBad}
 use Rattle.partition_table.specs.Layout.{IsPlaced, Places}
-use Rattle.boot_run.proofs.tests.layout_of.Goals as goal
+use Rattle.boot_run.proofs.tests.flagged_layout.Goals as goal
 
 -- a layout, where there is one
 some_of : (P : Places → Type 0) (r : Result Places TableBad) → IfOk r P → IfSome (result_ok r) P
