@@ -131,6 +131,51 @@ fn an_update_is_cut_at_each_of_its_steps(rt: HostRuntime) -> Result<(), Fail> {
     Ok(())
 }
 
+/// The lines of a sweep whose script writes once in each leg. What boots after the fourth and the ninth
+/// cut depends on whose step came first.
+const WRITTEN_START: &str = "steps 10
+cut 1 boots factory 80
+cut 2 boots factory 80
+cut 3 boots factory 80
+cut 4 boots ";
+
+const WRITTEN_MIDDLE: &str = "
+cut 5 boots ota_0 80
+cut 6 boots ota_0 80
+cut 7 boots factory 80
+cut 8 boots factory 80
+cut 9 boots ";
+
+const WRITTEN_END: &str = "
+cut 10 boots ota_0 80
+";
+
+#[test]
+fn the_steps_of_a_script_are_cut_too(rt: HostRuntime) -> Result<(), Fail> {
+    let alloc = rt.alloc();
+    let words = words_of(alloc, &["sweep", "F0", "B", "writes"])?;
+    let mut store = store_of_updates(alloc)?;
+    let mut sink = MemSink::new(alloc, Vec::new(alloc));
+    let served = serve(&rt, alloc, &words, &mut store, &mut sink, &NoPace);
+    assert_eq!(rt; served.status.code(), 0, "the status");
+    let mut is_one = false;
+    for (fourth, ninth) in [
+        ("factory", "factory"),
+        ("factory", "ota_0"),
+        ("ota_0", "factory"),
+        ("ota_0", "ota_0"),
+    ] {
+        let text = format!(in alloc;
+            "{WRITTEN_START}{fourth} 80{WRITTEN_MIDDLE}{ninth} 80{WRITTEN_END}"
+        )?;
+        if sink.bytes() == text.as_bytes() {
+            is_one = true;
+        }
+    }
+    assert_eq!(rt; is_one, true, "the lines, whatever the order of both cores");
+    Ok(())
+}
+
 #[test]
 fn a_sweep_ends_by_a_failing_end(rt: HostRuntime) -> Result<(), Fail> {
     let alloc = rt.alloc();

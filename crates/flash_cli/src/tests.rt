@@ -267,6 +267,22 @@ fn each_row_has_its_status_and_its_text(rt: HostRuntime) -> Result<(), Fail> {
     Ok(())
 }
 
+#[test]
+fn each_status_has_its_code(rt: HostRuntime) {
+    for (status, code) in [
+        (Status::Done, 0),
+        (Status::Usage, 1),
+        (Status::Refused(Refusal::Empty), 2),
+        (Status::StoreFault, 3),
+        (Status::DeviceFault { step: 1 }, 4),
+        (Status::PowerCut { step: 1 }, 5),
+        (Status::Memory, 6),
+        (Status::SinkFault, 7),
+    ] {
+        assert_eq!(rt; status.code(), code, "{status:?}");
+    }
+}
+
 /// Whether the answer is the row's, or out of memory.
 fn is_row_or_memory(alloc: Global, row: &Row<'_>) -> bool {
     match answer(alloc, row) {

@@ -92,6 +92,8 @@ fetch 0x3F410000 4
 unmap 0x400D0000
 map data 0 64
 irq 0x80000000
+map data 1 1
+unmap 0x3F410000
 ";
 
 const WRITE_LINES: &str = "phase session
@@ -105,6 +107,8 @@ worker 7 refused unmapped
 worker 8 refused notmapped
 worker 9 refused nopages
 worker 10 set mask 3 irq 0x80000000
+worker 11 mapped 0x3F410000
+worker 12 unmapped 0x3F410000
 steps 5
 end done
 boots ota_0 80
@@ -131,6 +135,14 @@ ota_0, app, ota_0, , 1M,
 const GUARDED_LINES: &str = "phase session
 worker 1 refused readonly
 worker 2 refused encrypted
+steps 4
+end done
+boots ota_0 80
+";
+
+/// The lines of a script that fetches from the code of its application.
+const CODE_LINES: &str = "phase session
+worker 1 fetch 0x400D0020 mask 3 irq 0x00000001 01020304
 steps 4
 end done
 boots ota_0 80
@@ -212,8 +224,9 @@ fn refused_calls<'a>() -> [Call<'a>; 9] {
     ]
 }
 
-/// The calls on flashes with other tables: partitions that may not be written, and one slot alone.
-fn table_calls<'a>() -> [Call<'a>; 7] {
+/// The calls on other flashes: with partitions that may not be written, with one slot alone, and with
+/// an application whose code is mapped.
+fn table_calls<'a>() -> [Call<'a>; 10] {
     [
         (&["table-make", "guarded.csv", "G"], 0, "rows 8\n"),
         (&["flash-make", "G", "A", "4194304", "GF"], 0, "length 80\n"),
@@ -230,11 +243,18 @@ fn table_calls<'a>() -> [Call<'a>; 7] {
             2,
             "refused: conflict ota_0\n",
         ),
+        (&["image-make", "code.plan", "K"], 0, "length 80\n"),
+        (&["flash-make", "T", "K", "4194304", "KF"], 0, "length 80\n"),
+        (
+            &["update", "KF", "B", "code", "X", "--upto", "session"],
+            0,
+            CODE_LINES,
+        ),
     ]
 }
 
 /// The calls of which a step breaks off, or whose image is none.
-fn broken_calls<'a>() -> [Call<'a>; 8] {
+fn broken_calls<'a>() -> [Call<'a>; 9] {
     [
         (
             &[
@@ -301,6 +321,11 @@ fn broken_calls<'a>() -> [Call<'a>; 8] {
             2,
             "phase session\nsteps 1\nend refused first byte 0x00\nboots factory 80\n",
         ),
+        (
+            &["update", "F0", "long", "empty", "X"],
+            2,
+            "phase session\nsteps 2\nend refused image trailing 81 80\nboots factory 80\n",
+        ),
     ]
 }
 
@@ -345,6 +370,8 @@ pub(crate) fn store_of_updates(alloc: Global) -> Result<MemStore, Fail> {
     let slot = vec![in alloc; 0u8; 1_048_540]?;
     store.put(alloc, "slot.bin", &slot)?;
     store.put(alloc, "zeros", &[0; 16])?;
+    store.put(alloc, "code", b"fetch 0x400D0020 4\n")?;
+    store.put(alloc, "code.plan", b"entry 1\nsegment 0x400D0020 a.bin\n")?;
     let image = store.get(alloc, "B")?;
     put_changed(
         alloc,
