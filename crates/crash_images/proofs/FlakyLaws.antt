@@ -1,5 +1,5 @@
 -- What the device in which one call fails hands on, and what it adds.
-use Rattle.std.specs.Prelude.{◌≡◌, ◌≤◌, ℕ, List, Option, Some, None, Result, Ok, Err, IfErr, OnOk, OnErr, refl}
+use Rattle.std.specs.Prelude.{◌≤◌, ℕ, List, Option, Some, None, Result, Ok, Err, IfErr, OnErr, refl}
 use Rattle.std.proofs.Common.{inl, inr}
 use Rattle.nor_device.specs.declared.step.Step.{Step}
 use Rattle.nor_device.specs.declared.nor.StepEnd.{StepEnd}

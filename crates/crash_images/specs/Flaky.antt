@@ -1,6 +1,6 @@
 -- The device in which one call fails.
-use Rattle.std.specs.Prelude.{◌≡◌, ◌⊎◌, ℕ, ◌+◌, ◌≤◌, Bool, true, List, Option, Some, None, Result, Err, IsErr, IsErrOf, OnOk}
-use Rattle.std.proofs.Common.{subst, inl, inr}
+use Rattle.std.specs.Prelude.{◌≡◌, ◌⊎◌, ℕ, ◌+◌, ◌≤◌, Bool, true, List, Option, None, Result, Err, IsErr}
+use Rattle.std.proofs.Common.{inl, inr}
 use Rattle.nor_device.specs.declared.step.Step.{Step}
 use Rattle.nor_device.specs.declared.nor.StepEnd.{StepEnd}
 use Rattle.nor_device.specs.declared.nor.StepEnd.TheVariants as ends
@@ -9,7 +9,6 @@ use Rattle.nor_device.specs.declared.nor.NorFault.TheVariants as faults
 use Rattle.nor_device.specs.Flash.{applied}
 use Rattle.nor_device.specs.Nor.{one_more}
 use Rattle.crash_images.specs.declared.flaky.FlakySetting.{FlakySetting}
-use Rattle.crash_images.specs.Cut.{IsDone}
 
 -- what a contract sees of it: the device inside, the number of the call that fails, the calls so far, the faults that
 -- it gave by itself, and whether it answered that the power is off
