@@ -24,6 +24,10 @@ abbrev pub flaky_device : {D : Type 0} → D → ℕ → ℕ → ℕ → Bool �
 flaky_device inner at calls faults off =
     record { inner = inner; at = at; calls = calls; faults = faults; off = off }
 
+-- what it may still do: fail in one call, and what the device inside may do
+abbrev pub flaky_setting : {D S : Type 0} → (D → S) → FlakyDevice D → FlakySetting S
+flaky_setting setting device = record { at = device.at; inner = setting device.inner }
+
 -- the next call is the one that fails
 abbrev pub IsNext : ℕ → ℕ → Type 0
 IsNext calls at = calls + 1 ≡ at

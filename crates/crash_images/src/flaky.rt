@@ -1,12 +1,13 @@
 //! A device over another, in which the call of a chosen number fails. All later calls work.
 
-ghost use Rattle.std.specs.Prelude.{◌≡◌, ◌⊎◌, ◌↔◌, ◌+◌, ◌≤◌, ◌^◌, Bool, true, false, None, Some, IsSome, IfSome, IsErr, IsErrOf, IfErr, OnOk, OnErr, length};
-ghost use Rattle.nor_device.specs.Nor.{one_more, end_by, HasCause, KeepsSteps, IsIdleAsBefore, IsLeftTorn};
-ghost use Rattle.crash_images.specs.Flaky.{flaky_device, IsNext, FlakyMayEnd, FlakyMayTear, FlakyMayRefuse};
+ghost use Rattle.std.specs.Prelude.{◌≡◌, ◌↔◌, ◌+◌, ◌≤◌, ◌^◌, ◌||◌, true, false, None, Some, IsSome, IsErr, IsErrOf, IfErr, OnOk, OnErr, length};
+ghost use Rattle.nor_device.specs.Nor.{one_more, end_by, HasCause, KeepsSetting, KeepsSteps, IsIdleAsBefore, StillRuns, IsPart, IsMade, IsLeftTorn};
+ghost use Rattle.nor_device.specs.Flash.{end_of, IsInOnePage};
+ghost use Rattle.crash_images.specs.Flaky.{flaky_device, flaky_setting, IsNext, CountsCall, StaysOff, FlakyMayEnd, FlakyMayTear, FlakyMayRefuse};
 
 use crate::crash::Crash;
 use crate::cut::count_fault;
-use nor_device::{Nor, NorFault, Ready, Step, finish};
+use nor_device::{Nor, NorFault, Ready, Step, StepEnd, finish};
 use std::marker::Model;
 
 /// What may still go wrong: the number of the call that fails, and what the device inside may do.
@@ -117,7 +118,20 @@ impl<D: Nor> Nor for FlakyNor<D> {
         self.inner.size()
     }
 
-    fn read(&mut self, at: u32, out: &mut [u8]) -> Result<(), NorFault> {
+    fn read(&mut self, at: u32, out: &mut [u8]) -> Result<(), NorFault>
+        requires idle { D.running self.old.inner ≡ None }
+        requires inside { at + length out.old ≤ D.size self.old.inner }
+        ensures counted { CountsCall self.old self.new result }
+        ensures off { StaysOff self.old self.new result }
+        ensures bytes { OnOk result (IsPart (D.bytes self.old.inner) at (length out.old) out.new) }
+        ensures allowed { IfErr result (FlakyMayRefuse D.may_end D.may_refuse
+            (flaky_setting D.setting self.old) (D.steps self.old.inner)) }
+        ensures stopped { OnOk result (¬ D.must_refuse (D.setting self.old.inner) (D.steps self.old.inner)) }
+        ensures same { IsIdleAsBefore D.bytes D.running self.old.inner self.new.inner }
+        ensures setting { KeepsSteps D.size D.setting D.steps self.old.inner self.new.inner }
+        ensures cause { HasCause (self.old.faults + D.faults self.old.inner)
+            (self.new.faults + D.faults self.new.inner) (self.new.off || D.off self.new.inner) result }
+    {
         let chosen = count_call(&mut self.calls, self.at);
         if self.off {
             return Err(NorFault::Off);
@@ -131,7 +145,25 @@ impl<D: Nor> Nor for FlakyNor<D> {
         answer
     }
 
-    fn start(&mut self, step: &Step) -> Result<(), NorFault> {
+    fn start(&mut self, step: &Step) -> Result<(), NorFault>
+        requires idle { D.running self.old.inner ≡ None }
+        requires paged { IsInOnePage step.now }
+        requires small { end_of step.now ≤ 2 ^ 32 }
+        requires inside { end_of step.now ≤ D.size self.old.inner }
+        ensures numbered { CountsCall self.old self.new result }
+        ensures off { StaysOff self.old self.new result }
+        ensures begun { OnOk result (D.running self.new.inner ≡ Some step.now) }
+        ensures counted { OnOk result (D.steps self.new.inner ≡ one_more (D.steps self.old.inner)) }
+        ensures refused { OnErr result
+            ((D.running self.new.inner ≡ None) × (D.steps self.new.inner ≡ D.steps self.old.inner)) }
+        ensures allowed { IfErr result (FlakyMayRefuse D.may_end D.may_refuse
+            (flaky_setting D.setting self.old) (D.steps self.old.inner)) }
+        ensures stopped { OnOk result (¬ D.must_refuse (D.setting self.old.inner) (D.steps self.old.inner)) }
+        ensures bytes { D.bytes self.new.inner ≡ D.bytes self.old.inner }
+        ensures setting { KeepsSetting D.size D.setting self.old.inner self.new.inner }
+        ensures cause { HasCause (self.old.faults + D.faults self.old.inner)
+            (self.new.faults + D.faults self.new.inner) (self.new.off || D.off self.new.inner) result }
+    {
         let chosen = count_call(&mut self.calls, self.at);
         if self.off {
             return Err(NorFault::Off);
@@ -145,7 +177,26 @@ impl<D: Nor> Nor for FlakyNor<D> {
         answer
     }
 
-    fn poll(&mut self) -> Result<Ready, NorFault> {
+    fn poll(&mut self) -> Result<Ready, NorFault>
+        requires running { IsSome (D.running self.old.inner) }
+        ensures counted { CountsCall self.old self.new result }
+        ensures busy { result ≡ Ok Ready.Busy → StillRuns D.bytes D.running D.left self.old.inner self.new.inner }
+        ensures ready { result ≡ Ok Ready.Ready → D.running self.new.inner ≡ None }
+        ensures made { result ≡ Ok Ready.Ready
+            → IsMade (D.running self.old.inner) (D.bytes self.old.inner) (D.bytes self.new.inner) }
+        ensures done { result ≡ Ok Ready.Ready
+            → D.may_end (D.setting self.old.inner) (D.steps self.old.inner) StepEnd.Done }
+        ensures refused { OnErr result (D.running self.new.inner ≡ None) }
+        ensures torn { OnErr result (IsLeftTorn (FlakyMayTear D.may_tear
+            (flaky_setting D.setting self.old) (D.steps self.old.inner))
+            (D.running self.old.inner) (D.bytes self.old.inner) (D.bytes self.new.inner)) }
+        ensures ended { IfErr result
+            (λ why. FlakyMayEnd D.may_end
+            (flaky_setting D.setting self.old) (D.steps self.old.inner) (end_by why)) }
+        ensures setting { KeepsSteps D.size D.setting D.steps self.old.inner self.new.inner }
+        ensures cause { HasCause (self.old.faults + D.faults self.old.inner)
+            (self.new.faults + D.faults self.new.inner) (self.new.off || D.off self.new.inner) result }
+    {
         let chosen = count_call(&mut self.calls, self.at);
         let answer = if chosen {
             end_and_refuse(&mut self.inner, self.at, &mut self.faults)
