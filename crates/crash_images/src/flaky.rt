@@ -132,11 +132,11 @@ impl<D: Nor> Nor for FlakyNor<D> {
         ensures cause { HasCause (self.old.faults + D.faults self.old.inner)
             (self.new.faults + D.faults self.new.inner) (self.new.off || D.off self.new.inner) result }
     {
-        let chosen = count_call(&mut self.calls, self.at);
+        let failing_read = count_call(&mut self.calls, self.at);
         if self.off {
             return Err(NorFault::Off);
         }
-        let answer = if chosen {
+        let answer = if failing_read {
             refuse(&mut self.inner, self.at, &mut self.faults)
         } else {
             self.inner.read(at, out)
@@ -164,11 +164,11 @@ impl<D: Nor> Nor for FlakyNor<D> {
         ensures cause { HasCause (self.old.faults + D.faults self.old.inner)
             (self.new.faults + D.faults self.new.inner) (self.new.off || D.off self.new.inner) result }
     {
-        let chosen = count_call(&mut self.calls, self.at);
+        let failing_start = count_call(&mut self.calls, self.at);
         if self.off {
             return Err(NorFault::Off);
         }
-        let answer = if chosen {
+        let answer = if failing_start {
             refuse(&mut self.inner, self.at, &mut self.faults)
         } else {
             self.inner.start(step)
@@ -197,8 +197,8 @@ impl<D: Nor> Nor for FlakyNor<D> {
         ensures cause { HasCause (self.old.faults + D.faults self.old.inner)
             (self.new.faults + D.faults self.new.inner) (self.new.off || D.off self.new.inner) result }
     {
-        let chosen = count_call(&mut self.calls, self.at);
-        let answer = if chosen {
+        let failing_poll = count_call(&mut self.calls, self.at);
+        let answer = if failing_poll {
             end_and_refuse(&mut self.inner, self.at, &mut self.faults)
         } else {
             self.inner.poll()
@@ -251,11 +251,14 @@ fn refuse<D: Nor>(inner: &mut D, at: u64, faults: &mut u64) -> Result<(), NorFau
         (D.off inner.new) result }
 {
     // A read of nothing asks for the power.
-    inner.read(0, &mut [])?;
-    Err(count_fault(faults))
+    match inner.read(0, &mut []) {
+        Ok(()) => Err(count_fault(faults)),
+        refused => refused,
+    }
 }
 
-/// Fails behind the end of the step, which is whole, unless the device inside refuses a poll.
+/// Fails after the end of the step, which is whole, unless the device inside refuses a poll.
+#[tactic(auto, using(crate::proofs::FlakyLaws::whole_torn))]
 fn end_and_refuse<D: Nor>(inner: &mut D, at: u64, faults: &mut u64) -> Result<Ready, NorFault>
     requires some { 1 ≤ at }
     requires running { IsSome (D.running inner.old) }

@@ -15,6 +15,9 @@ const SIZE: usize = 1_048_576;
 /// A tear number with the mask F0 in the bytes 2 to 5 of the range, and 0F in all others.
 const WINDOW: u64 = 0x0006_0002_0FF0;
 
+/// A tear number with the mask F0 from the last byte of the range's first sector to the first byte of its third, and 0F in all others.
+const WIDE_WINDOW: u64 = 0x2001_0FFF_0FF0;
+
 /// As many bytes of one value.
 fn filled(alloc: Global, byte: u8, size: usize) -> Result<Vec<u8>, AllocError>
     ensures length { IfOk result (λ bytes. length bytes.items ≡ size) }
@@ -136,5 +139,139 @@ fn what_the_device_inside_refuses_is_handed_on(rt: HostRuntime) -> Result<(), Fa
         Err(NorFault::Off),
         "the power goes off inside"
     );
+    Ok(())
+}
+
+/// Which byte of block 1 is the first that is not 0 with the bits of its mask set.
+fn first_wrong(bytes: &[u8], tear: u64) -> Option<usize> {
+    let (window_start, window_end) = (tear / 65_536 % 65_536, tear / 4_294_967_296 % 65_536);
+    for i in 0..65_536_usize {
+        let in_window = window_start <= i as u64 && (i as u64) < window_end;
+        let mask = if in_window {
+            tear % 256
+        } else {
+            tear / 256 % 256
+        };
+        if bytes.get(65_536 + i) != Some(&(mask as u8)) {
+            return Some(i);
+        }
+    }
+    None
+}
+
+#[test]
+fn a_torn_block_has_the_masks_of_its_tear_number(rt: HostRuntime) -> Result<(), Fail> {
+    for tear in [0, 0xFFFF, 0x1000, WIDE_WINDOW] {
+        let inner = RamNor::of_bytes(filled(rt.alloc(), 0, SIZE)?, 0);
+        let mut device = CutNor::new(inner, Some(1), tear, None);
+        device.start(&Step::Block { block: 1 })?;
+        assert_eq!(rt;
+            device.poll(),
+            Err(NorFault::Off),
+            "the first poll, tear {tear}"
+        );
+        let bytes = device.restart().into_inner().into_bytes();
+        assert_eq!(rt; first_wrong(&bytes, tear), None, "the block, tear {tear}");
+        for at in [65_535, 131_072] {
+            assert_eq!(rt;
+                bytes.get(at),
+                Some(&0),
+                "beside the block at {at}, tear {tear}"
+            );
+        }
+    }
+    Ok(())
+}
+
+#[test]
+fn a_torn_byte_of_a_block_has_its_place_in_the_block(rt: HostRuntime) {
+    for (i, want) in [
+        (4094, 0x0F),
+        (4095, 0xF0),
+        (8192, 0xF0),
+        (8193, 0x0F),
+        (65_535, 0x0F),
+    ] {
+        assert_eq!(rt; torn_byte(0, 0xFF, true, WIDE_WINDOW, i), want, "byte {i}");
+    }
+}
+
+#[test]
+fn what_is_refused_between_two_sectors_is_handed_on(rt: HostRuntime) -> Result<(), Fail> {
+    let ram = RamNor::of_bytes(filled(rt.alloc(), 0, SIZE)?, 0);
+    // An erase and 16 programs a sector: the erase of the second sector is step 18 inside.
+    let inner = CutNor::new(ram, Some(18), 0, None);
+    let mut device = CutNor::new(inner, Some(1), 0x0F0F, None);
+    device.start(&Step::Block { block: 1 })?;
+    assert_eq!(rt;
+        device.poll(),
+        Err(NorFault::Off),
+        "the power goes off inside"
+    );
+    let bytes = device.into_inner().restart().into_inner().into_bytes();
+    for (at, want) in [(65_536, 0x0F), (69_631, 0x0F), (69_632, 0), (131_071, 0)] {
+        assert_eq!(rt; bytes.get(at), Some(&want), "at {at}");
+    }
+    Ok(())
+}
+
+#[test]
+fn one_chosen_call_fails_and_all_later_ones_work(rt: HostRuntime) -> Result<(), Fail> {
+    // A read, a start, a poll that answers Busy and one that answers Ready.
+    let failed = Err(NorFault::Failed);
+    for (at, read, erased, faults, byte) in [
+        (1, failed, Ok(()), 1, 0xFF),
+        (2, Ok(()), failed, 1, 0),
+        (3, Ok(()), failed, 1, 0xFF),
+        (4, Ok(()), failed, 1, 0xFF),
+        (5, Ok(()), Ok(()), 0, 0xFF),
+    ] {
+        let inner = RamNor::of_bytes(filled(rt.alloc(), 0, SIZE)?, 1);
+        let mut device = FlakyNor::new(inner, at);
+        let mut found = [7];
+        assert_eq!(rt;
+            device.read(0, &mut found),
+            read,
+            "the read, call {at} fails"
+        );
+        let step = Step::Erase { sector: 0 };
+        assert_eq!(rt;
+            make_step(&mut device, &step),
+            erased,
+            "the erase, call {at} fails"
+        );
+        assert_eq!(rt; device.faults(), faults, "the faults, call {at} fails");
+        let bytes = device.into_inner().into_bytes();
+        assert_eq!(rt; bytes.get(0), Some(&byte), "the byte, call {at} fails");
+    }
+    Ok(())
+}
+
+#[test]
+fn after_a_loss_of_power_each_call_of_a_flaky_device_is_off(rt: HostRuntime) -> Result<(), Fail> {
+    let ram = RamNor::of_bytes(filled(rt.alloc(), 0, SIZE)?, 0);
+    let mut device = FlakyNor::new(CutNor::new(ram, Some(1), 0, None), 4);
+    let erase = Step::Erase { sector: 0 };
+    device.start(&erase)?;
+    assert_eq!(rt; device.poll(), Err(NorFault::Off), "the poll");
+    let mut byte = [7];
+    assert_eq!(rt;
+        device.read(0, &mut byte),
+        Err(NorFault::Off),
+        "the read after it"
+    );
+    assert_eq!(rt;
+        device.start(&erase),
+        Err(NorFault::Off),
+        "the call that was to fail"
+    );
+    assert_eq!(rt;
+        device.read(0, &mut byte),
+        Err(NorFault::Off),
+        "the read after that"
+    );
+    assert_eq!(rt; device.faults(), 0, "the faults");
+    assert_eq!(rt; device.calls(), 5, "the calls");
+    power_loss_leaves(&device);
     Ok(())
 }
