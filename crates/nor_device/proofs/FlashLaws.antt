@@ -5,7 +5,7 @@ use Rattle.std.proofs.lemmas.List.{length-take, length-replicate, get_or-replica
 use Rattle.std.proofs.lemmas.Bool.{cases_lt}
 use Rattle.std.proofs.lemmas.Bool.Decides.{nat_tests}
 use Rattle.nor_device.specs.declared.step.Step.{Step}
-use Rattle.nor_device.specs.declared.step.Step.TheVariants.{Erase, Program}
+use Rattle.nor_device.specs.declared.step.Step.TheVariants.{Erase, Program, Block}
 use Rattle.nor_device.specs.Flash.{start_of, len_of, end_of, anded, part_after, applied, after_steps, is_in_range, changed_byte, byte_after}
 use Rattle.nor_device.proofs.Splice.{length-spliced, spliced_below, spliced_within, spliced_above, part_byte}
 
@@ -28,6 +28,7 @@ get_or-anded (byte ∷ old) (data_byte ∷ new) (suc k) in_old in_new =
 pub length-part_after : (step : Step) (part : List ℕ) → length (part_after step part) ≡ length part
 length-part_after (Erase sector) part = length-replicate (length part) 255
 length-part_after (Program at page) part = length-anded part page
+length-part_after (Block block) part = length-replicate (length part) 255
 
 -- and changes each byte of it so
 pub get_or-part_after : (step : Step) (part : List ℕ) (k : ℕ) → k < length part → k < len_of step
@@ -36,6 +37,8 @@ get_or-part_after (Erase sector) part k in_part in_range =
     get_or-replicate (length part) k 255 0 in_part
 get_or-part_after (Program at page) part k in_part in_range =
     get_or-anded part page k in_part in_range
+get_or-part_after (Block block) part k in_part in_range =
+    get_or-replicate (length part) k 255 0 in_part
 
 -- a step keeps the length of the flash
 pub length_applied : (flash : List ℕ) (step : Step) → length (applied flash step) ≡ length flash

@@ -2,4 +2,4 @@ pub mod Splice
 pub mod FlashLaws
 pub mod TornLaws
 pub mod Missed
-mod Erased
+pub mod EraseLaws

@@ -8,7 +8,7 @@ use Rattle.std.proofs.lemmas.List.Elements.{All-get_or, All-from_get_or}
 use Rattle.std.specs.List.{All}
 use Rattle.std.specs.Int.Bits.{or_add_and, and_self}
 use Rattle.nor_device.specs.declared.step.Step.{Step}
-use Rattle.nor_device.specs.declared.step.Step.TheVariants.{Erase, Program}
+use Rattle.nor_device.specs.declared.step.Step.TheVariants.{Erase, Program, Block}
 use Rattle.nor_device.specs.Flash.{start_of, end_of, applied, byte_after, changed_byte}
 use Rattle.nor_device.specs.Torn.{IsTornProgram, IsTornByte, TornAt, Torn}
 use Rattle.nor_device.specs.Make.{IsTornBy}
@@ -39,6 +39,7 @@ pub torn_byte_self : (step : Step) (k byte : ℕ) → IsTornByte step k byte byt
 torn_byte_self (Erase sector) k byte = λ small. small
 torn_byte_self (Program at page) k byte =
     torn_program (slice_index page k) byte byte (and_self byte) refl
+torn_byte_self (Block block) k byte = λ small. small
 
 -- a byte that a program has changed is torn
 pub torn_program_made : (data_byte byte : ℕ) → IsTornProgram data_byte byte (bit_and byte data_byte)
@@ -54,6 +55,7 @@ pub torn_byte_changed : (step : Step) (k byte : ℕ)
     → IsTornByte step k byte (changed_byte step k byte)
 torn_byte_changed (Erase sector) k byte = λ small. lit< tt
 torn_byte_changed (Program at page) k byte = torn_program_made (slice_index page k) byte
+torn_byte_changed (Block block) k byte = λ small. lit< tt
 
 -- torn twice by one step is torn once
 pub torn_byte_twice : (step : Step) (k a b c : ℕ) → IsTornByte step k a b → IsTornByte step k b c
@@ -66,6 +68,7 @@ torn_byte_twice (Program at page) k a b c first second =
     let c_in_a : bit_and c a ≡ c = ap (λ (x : ℕ). bit_and x a) (sym c_in_b) ∙ and_assoc a c b
     ∙ ap (λ (x : ℕ). bit_and c x) b_in_a ∙ c_in_b in
     torn_program d a c c_in_a (torn_and d b c second ∙ torn_and d a b first)
+torn_byte_twice (Block block) k a b c first second = λ small. second (first small)
 
 -- what is left of a byte is a byte: an erase keeps it one, and a program sets no bit
 pub torn_byte_small : (step : Step) (k old new : ℕ) → IsTornByte step k old new → old < 256
@@ -73,6 +76,7 @@ pub torn_byte_small : (step : Step) (k old new : ℕ) → IsTornByte step k old 
 torn_byte_small (Erase sector) k old new torn small = torn small
 torn_byte_small (Program at page) k old new torn small =
     omega (arith, le_or_l new old, torn.sets_none)
+torn_byte_small (Block block) k old new torn small = torn small
 
 -- at every address
 pub torn_at_small : (step : Step) (i old new : ℕ) → TornAt step i old new → old < 256 → new < 256
@@ -98,6 +102,7 @@ pub changed_byte_torn : (step : Step) (k old new : ℕ) → IsTornByte step k ol
     → changed_byte step k new ≡ changed_byte step k old
 changed_byte_torn (Erase sector) k old new torn = refl
 changed_byte_torn (Program at page) k old new torn = torn_and (slice_index page k) old new torn
+changed_byte_torn (Block block) k old new torn = refl
 
 -- a flash that a step has not touched is torn of itself
 pub torn_self : (flash : List ℕ) (step : Step) → Torn flash step flash

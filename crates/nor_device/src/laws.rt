@@ -1,16 +1,17 @@
 //! What holds of every flash and every step.
 
-ghost use Rattle.std.specs.Prelude.{◌≡◌, ℕ, ◌<◌, All, List, ◌++◌, length, slice_index};
+ghost use Rattle.std.specs.Prelude.{◌≡◌, ◌↔◌, ℕ, ◌<◌, ◌≤◌, All, List, ◌++◌, length, slice_index};
 ghost use Rattle.nor_device.specs.declared.page.TheConstants.{PAGE_SIZE};
-ghost use Rattle.nor_device.specs.declared.step.TheConstants.{SECTOR_SIZE};
+ghost use Rattle.nor_device.specs.declared.step.TheConstants.{SECTOR_SIZE, BLOCK_SIZE};
 ghost use Rattle.nor_device.specs.declared.step.Step.{Step};
-ghost use Rattle.nor_device.specs.Flash.{applied, after_steps, byte_after};
-ghost use Rattle.nor_device.specs.Torn.{Torn};
+ghost use Rattle.nor_device.specs.Flash.{start_of, len_of, end_of, IsErase, applied, erased, after_steps, byte_after};
+ghost use Rattle.nor_device.specs.Torn.{Torn, IsTornErase};
 
-/// A page has 256 bytes, and a sector 4096.
+/// A page has 256 bytes, a sector 4096, and a block 65,536.
 pub fn laws_of_sizes()
     ensures page { PAGE_SIZE ≡ 256 }
     ensures sector { SECTOR_SIZE ≡ 4096 }
+    ensures block { BLOCK_SIZE ≡ 65536 }
 {}
 
 /// What a step makes of each byte, and a list of steps of the flash.
@@ -21,6 +22,14 @@ pub fn laws_of_steps()
         → slice_index (applied flash step) i ≡ byte_after step i (slice_index flash i) }
     ensures first_some { (flash : List ℕ) (made rest : List Step)
         → after_steps flash (made ++ rest) ≡ after_steps (after_steps flash made) rest }
+{}
+
+/// The two kinds of erase are told by where they begin and how long they are.
+pub fn laws_of_erases()
+    ensures made { (flash : List ℕ) (step : Step) → IsErase step → end_of step ≤ length flash
+        → applied flash step ≡ erased flash (start_of step) (len_of step) }
+    ensures torn { (old new : List ℕ) (step : Step) → IsErase step
+        → (Torn old step new ↔ IsTornErase (start_of step) (len_of step) old new) }
 {}
 
 /// What a step that was cut short may leave: nothing done, all done, and with it all that a second cut leaves.

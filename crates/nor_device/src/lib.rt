@@ -10,12 +10,12 @@ mod ram;
 mod step;
 
 pub use flash_size::is_flash_size;
-pub use laws::{laws_of_sizes, laws_of_steps, laws_of_torn_flashes};
+pub use laws::{laws_of_erases, laws_of_sizes, laws_of_steps, laws_of_torn_flashes};
 pub use make::{finish, make_step};
 pub use nor::{Nor, NorFault, Ready, StepEnd};
 pub use page::{PAGE_SIZE, Page};
 pub use ram::RamNor;
-pub use step::{SECTOR_SIZE, Step};
+pub use step::{BLOCK_SIZE, SECTOR_SIZE, Step};
 
 #[cfg(test)]
 mod tests;

@@ -1,13 +1,13 @@
 //! A flash in memory: each step is made in its last poll.
 
-ghost use Rattle.std.specs.Prelude.{◌≡◌, ◌≤◌, ◌+◌, ◌++◌, None, IsOk, length, take, drop, replicate};
-ghost use Rattle.nor_device.specs.Flash.{end_of, applied, anded};
+ghost use Rattle.std.specs.Prelude.{◌≡◌, ◌≤◌, ◌+◌, ◌++◌, None, IsOk, length, take, drop};
+ghost use Rattle.nor_device.specs.Flash.{end_of, applied, anded, erased};
 ghost use Rattle.nor_device.specs.Nor.{part_of};
 ghost use Rattle.nor_device.specs.FlashSize.{IsFlashSize};
 ghost use Rattle.nor_device.specs.Ram.{begun, polled, poll_answer};
 
 use crate::nor::{Nor, NorFault, Ready};
-use crate::step::{SECTOR_SIZE, Step};
+use crate::step::{BLOCK_SIZE, SECTOR_SIZE, Step};
 use std::marker::Model;
 
 /// A device that keeps its bytes in memory, refuses nothing and answers `Busy` a fixed number of times a step.
@@ -147,14 +147,17 @@ fn apply(bytes: &mut [u8], step: &Step)
             erase(bytes, start, SECTOR_SIZE as usize);
         }
         Step::Program { at, bytes: page } => program(bytes, *at as usize, page.bytes()),
+        Step::Block { block } => {
+            let start = *block as usize * BLOCK_SIZE as usize;
+            erase(bytes, start, BLOCK_SIZE as usize);
+        }
     }
 }
 
 /// Sets the bytes of the range to 0xFF.
 fn erase(bytes: &mut [u8], start: usize, len: usize)
     requires inside { start + len ≤ length bytes.old }
-    ensures exact { bytes.new ≡ take start bytes.old
-        ++ replicate len 255 ++ drop (start + len) bytes.old }
+    ensures exact { bytes.new ≡ erased bytes.old start len }
 {
     bytes[start..start + len].fill(0xFF);
 }

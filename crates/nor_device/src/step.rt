@@ -1,4 +1,4 @@
-//! The two commands that change a NOR flash: the erase of a sector sets bits, a program clears some.
+//! The commands that change a NOR flash: the erase of a sector or a block sets bits, a program clears some.
 
 ghost use Rattle.std.specs.Prelude.{◌≡◌, ◌≤◌, ◌^◌, Some};
 
@@ -7,6 +7,9 @@ use crate::page::Page;
 /// The bytes of a sector, the least that one erase sets to 0xFF.
 pub const SECTOR_SIZE: u32 = 4096;
 
+/// The bytes of a block, the most that one erase sets to 0xFF: sixteen sectors.
+pub const BLOCK_SIZE: u32 = 65_536;
+
 /// One change of the flash.
 #[derive(Drop)]
 pub enum Step {
@@ -14,6 +17,8 @@ pub enum Step {
     Erase { sector: u32 },
     /// ANDs the bytes into the flash from the address on.
     Program { at: u32, bytes: Page },
+    /// Sets the 65,536 bytes of a block to 0xFF. Block n begins at address 65,536 n.
+    Block { block: u32 },
 }
 
 impl Step {
@@ -28,6 +33,7 @@ impl Step {
         match self {
             Step::Erase { sector } => (*sector * SECTOR_SIZE, SECTOR_SIZE),
             Step::Program { at, bytes } => (*at, bytes.bytes().len() as u32),
+            Step::Block { block } => (*block * BLOCK_SIZE, BLOCK_SIZE),
         }
     }
 
@@ -43,6 +49,7 @@ impl Step {
                     bytes: bytes.copy(),
                 })
             }
+            Step::Block { block } => *place = Some(Step::Block { block: *block }),
         }
     }
 
@@ -56,6 +63,7 @@ impl Step {
                 at: *at,
                 bytes: bytes.copy(),
             },
+            Step::Block { block } => Step::Block { block: *block },
         }
     }
 }

@@ -101,6 +101,21 @@ fn a_program_clears_bits_and_an_erase_sets_them(rt: HostRuntime) -> Result<(), F
 }
 
 #[test]
+fn a_block_erase_sets_65536_bytes(rt: HostRuntime) -> Result<(), Fail> {
+    let mut device = RamNor::of_bytes(filled(rt.alloc(), 0x3C, SIZE)?, 0);
+    assert_eq!(rt;
+        byte_after(&mut device, &Step::Block { block: 1 }),
+        Ok(0xFF),
+        "the first byte"
+    );
+    let bytes = device.into_bytes();
+    assert_eq!(rt; bytes[65_535], 0x3C, "the byte before the block");
+    assert_eq!(rt; bytes[131_071], 0xFF, "the last byte of the block");
+    assert_eq!(rt; bytes[131_072], 0x3C, "the byte after the block");
+    Ok(())
+}
+
+#[test]
 fn a_step_answers_busy_as_often_as_was_said(rt: HostRuntime) -> Result<(), Fail> {
     let mut device = RamNor::of_bytes(filled(rt.alloc(), 0, SIZE)?, 2);
     device.start(&Step::Erase { sector: 1 })?;
@@ -121,6 +136,8 @@ fn a_page_has_1_to_256_bytes_and_a_flash_a_size_of_the_list(rt: HostRuntime) {
         (1_048_576, true),
         (3_145_728, false),
         (16_777_216, true),
+        (33_554_432, true),
+        (67_108_864, false),
     ] {
         assert_eq!(rt; is_flash_size(size), flash, "a flash of {size}");
     }
