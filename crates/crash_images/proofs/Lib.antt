@@ -4,3 +4,4 @@ pub mod LeftOf
 pub mod AgreesLaws
 pub mod CutLaws
 mod Told
+mod FlakyLaws

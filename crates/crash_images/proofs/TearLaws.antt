@@ -1,17 +1,18 @@
 -- What holds of the flash that a tear number names.
 use Rattle.std.specs.Prelude.{◌≡◌, ◌⊎◌, ℕ, ◌+◌, ◌-◌, ◌<◌, ◌≤◌, ◌%◌, List, [], ◌∷◌, ◌++◌, length, take, drop, slice_index, bit_and, bit_or, nat_le, nat_lt, ◌&&◌, if◌then◌else◌, true, false, refl}
 use Rattle.std.proofs.Common.{zero, suc, get_or, sym, ◌∙◌, ap, subst, inl, inr, arith, add-zero, zero-add, length-drop, length-append}
-use Rattle.std.proofs.lemmas.List.{ext_get_or, length-take, get_or_append_left, get_or-append_right}
+use Rattle.std.proofs.lemmas.List.{ext_get_or, length-take, get_or_append_left, get_or-append_right, append_assoc, drop-drop}
+use Rattle.std.proofs.Math.Seq.{take-add, take-append_seam, drop-append_seam}
 use Rattle.std.proofs.lemmas.Bool.{cases_lt}
 use Rattle.std.proofs.lemmas.Nat.{and_assoc, and_comm, and_or_self, or_comm, and_mask, or_of_8}
 use Rattle.nor_device.specs.declared.step.Step.{Step}
-use Rattle.nor_device.specs.declared.step.Step.TheVariants.{Erase, Program}
+use Rattle.nor_device.specs.declared.step.Step.TheVariants.{Erase, Program, Block}
 use Rattle.nor_device.specs.Flash.{start_of, len_of, end_of, anded, applied, changed_byte, byte_after}
 use Rattle.nor_device.specs.Torn.{IsTornProgram, IsTornByte, Torn}
 use Rattle.nor_device.proofs.Splice.{length-spliced, spliced_below, spliced_within, spliced_above, part_byte}
 use Rattle.nor_device.proofs.FlashLaws.{length-anded, get_or-anded, length_applied, byte_applied, byte_after_outside, byte_after_inside}
 use Rattle.nor_device.proofs.TornLaws.{torn_program_made}
-use Rattle.crash_images.specs.Tear.{window_mask, other_mask, window_start, window_end, mask_at, with_mask_bits, torn_byte_of, torn_part, torn_by, is_erase, data_byte_of}
+use Rattle.crash_images.specs.Tear.{window_mask, other_mask, window_start, window_end, mask_at, with_mask_bits, torn_byte_of, torn_part, torn_by, is_erase, data_byte_of, masked}
 
 -- setting bits keeps the length
 pub length_with_mask_bits : (tear i : ℕ) (bytes : List ℕ) → length (with_mask_bits tear i bytes) ≡ length bytes
@@ -34,6 +35,7 @@ pub length-torn_part : (step : Step) (tear : ℕ) (part : List ℕ)
     → length (torn_part step tear part) ≡ length part
 length-torn_part (Erase sector) tear part = length_with_mask_bits tear 0 part
 length-torn_part (Program at page) tear part = length-anded part (with_mask_bits tear 0 page)
+length-torn_part (Block block) tear part = length_with_mask_bits tear 0 part
 
 -- and makes of each byte of it the torn byte
 pub get_or-torn_part : (step : Step) (tear : ℕ) (part : List ℕ) (k : ℕ) → k < length part
@@ -47,6 +49,8 @@ get_or-torn_part (Program at page) tear part k in_part in_range =
     ∙ ap (λ (x : ℕ). bit_and (get_or part k 0) x)
     (get_or-with_mask_bits tear 0 page k in_range
     ∙ ap (λ (n : ℕ). bit_or (get_or page k 0) (mask_at tear n)) (zero-add k))
+get_or-torn_part (Block block) tear part k in_part in_range = get_or-with_mask_bits tear 0 part k in_part
+    ∙ ap (λ (n : ℕ). bit_or (get_or part k 0) (mask_at tear n)) (zero-add k)
 
 -- the flash keeps its length
 pub length_torn_by : (flash : List ℕ) (step : Step) (tear : ℕ)
@@ -116,6 +120,7 @@ torn_byte_of_torn (Erase sector) tear k old = λ small. or_of_8 old (mask_at tea
 torn_byte_of_torn (Program at page) tear k old =
     torn_program_weaker (slice_index page k) (mask_at tear k) old _
     (torn_program_made (bit_or (slice_index page k) (mask_at tear k)) old)
+torn_byte_of_torn (Block block) tear k old = λ small. or_of_8 old (mask_at tear k) small (mask_small tear k)
 
 -- the flash that a tear number names is a torn one
 pub tear_is_torn : (flash : List ℕ) (step : Step) (tear : ℕ)
@@ -310,3 +315,80 @@ applied_erased flash erase all_ones bytes long inside small =
             ∙ sym (spliced_above flash start len bytes same i past in_flash)
       ]
     ]
+
+-- the masks of two lists, one behind the other
+with_mask_append : (tear i : ℕ) (front back : List ℕ) → with_mask_bits tear i (front ++ back)
+    ≡ with_mask_bits tear i front ++ with_mask_bits tear (i + length front) back
+with_mask_append tear i [] back = ap (λ (n : ℕ). with_mask_bits tear n back) (sym (add-zero i))
+with_mask_append tear i (byte ∷ front) back =
+    let next : i + 1 + length front ≡ i + length (byte ∷ front) = omega arith in
+    ap (λ (l : List ℕ). bit_or byte (mask_at tear i) ∷ l)
+    (with_mask_append tear (i + 1) front back
+    ∙ ap (λ (n : ℕ). with_mask_bits tear (i + 1) front ++ with_mask_bits tear n back) next)
+
+-- two ranges side by side whose bytes have the bits of their masks set are one
+pub masked_more : (flash : List ℕ) (at len more tear i : ℕ) → at + len ≤ length flash
+    → masked (masked flash at len tear i) (at + len) more tear (i + len)
+    ≡ masked flash at (len + more) tear i
+masked_more flash at len more tear i inside =
+    ap (λ (l : List ℕ). l ++ with_mask_bits tear (i + len) (take more (drop (at + len) mid))
+    ++ drop (at + len + more) mid) first
+    ∙ ap (λ (l : List ℕ). (low ++ marked) ++ with_mask_bits tear (i + len) (take more l)
+    ++ drop (at + len + more) mid) rest_is
+    ∙ ap (λ (l : List ℕ). (low ++ marked) ++ with_mask_bits tear (i + len) (take more rest) ++ l) last
+    ∙ ap (λ (l : List ℕ). l ++ high) (append_assoc low marked (with_mask_bits tear (i + len) (take more rest)))
+    ∙ ap (λ (l : List ℕ). low ++ l ++ high) (sym both)
+  where
+    low : List ℕ
+    low = take at flash
+
+    part : List ℕ
+    part = take len (drop at flash)
+
+    marked : List ℕ
+    marked = with_mask_bits tear i part
+
+    rest : List ℕ
+    rest = drop (at + len) flash
+
+    high : List ℕ
+    high = drop (at + (len + more)) flash
+
+    mid : List ℕ
+    mid = masked flash at len tear i
+
+    part_long : length part ≡ len
+    part_long = omega (arith, inside, length-take len (drop at flash), length-drop at flash)
+
+    long : length (low ++ marked) ≡ at + len
+    long = omega (
+      arith,
+      inside,
+      length-append low marked,
+      length-take at flash,
+      length_with_mask_bits tear i part,
+      part_long,
+    )
+
+    first : take (at + len) mid ≡ low ++ marked
+    first = ap (λ (n : ℕ). take n mid) (sym long)
+        ∙ take-append_seam (low ++ marked) rest
+
+    rest_is : drop (at + len) mid ≡ rest
+    rest_is = ap (λ (n : ℕ). drop n mid) (sym long)
+        ∙ drop-append_seam (low ++ marked) rest
+
+    same_end : at + len + more ≡ at + (len + more)
+    same_end = omega arith
+
+    last : drop (at + len + more) mid ≡ high
+    last = sym (drop-drop more (at + len) mid) ∙ ap (λ (l : List ℕ). drop more l) rest_is
+        ∙ drop-drop more (at + len) flash ∙ ap (λ (n : ℕ). drop n flash) same_end
+
+    both : with_mask_bits tear i (take (len + more) (drop at flash))
+        ≡ marked ++ with_mask_bits tear (i + len) (take more rest)
+    both = ap (with_mask_bits tear i)
+        (take-add len more (drop at flash)
+        ∙ ap (λ (l : List ℕ). part ++ take more l) (drop-drop len at flash))
+        ∙ with_mask_append tear i part (take more rest)
+        ∙ ap (λ (n : ℕ). marked ++ with_mask_bits tear (i + n) (take more rest)) part_long

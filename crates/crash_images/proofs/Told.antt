@@ -1,8 +1,8 @@
 -- What calls on the device inside leave of the bytes that it tells.
-use Rattle.std.proofs.Common.{◌≡◌, ◌<◌, ◌≤◌, ◌+◌, ℕ, List, [], ◌++◌, length, get_or, take, drop, Option, Some, None, Result, Ok, Err, IfErr, OnOk, OnErr, IfSome, true, ◌-◌, slice_index, refl, sym, ◌∙◌, ap, subst, inl, inr, arith, take-append-drop, length-drop}
-use Rattle.std.proofs.lemmas.List.{length-take, take-take, drop-take}
+use Rattle.std.proofs.Common.{◌≡◌, ◌<◌, ◌≤◌, ◌+◌, ℕ, List, [], ◌++◌, length, get_or, take, drop, Option, Some, None, Result, Ok, Err, IfErr, OnOk, OnErr, IfSome, true, ◌-◌, slice_index, refl, sym, ◌∙◌, ap, subst, inl, inr, arith, take-append-drop, length-drop, zero-add}
+use Rattle.std.proofs.lemmas.List.{append-nil, length-take, take-take, drop-take}
 use Rattle.nor_device.specs.declared.step.Step.{Step}
-use Rattle.nor_device.specs.declared.step.Step.TheVariants.{Erase, Program}
+use Rattle.nor_device.specs.declared.step.Step.TheVariants.{Erase, Program, Block}
 use Rattle.nor_device.specs.declared.nor.StepEnd.{StepEnd}
 use Rattle.nor_device.specs.declared.nor.NorFault.{NorFault}
 use Rattle.nor_device.specs.declared.nor.Ready.{Ready}
@@ -12,11 +12,11 @@ use Rattle.nor_device.specs.Nor.{IsLeftTorn, one_more, end_by, part_of}
 use Rattle.nor_device.specs.Make.{IsAfter, IsTornBy, IsMissed}
 use Rattle.nor_device.proofs.Missed.{missed_allowed}
 use Rattle.nor_device.proofs.TornLaws.{torn_applied}
-use Rattle.crash_images.specs.Tear.{with_mask_bits, torn_part, torn_by, is_erase}
-use Rattle.crash_images.proofs.TearLaws.{tear_is_torn, applied_masked, torn_masked, applied_nothing, applied_more, applied_erased, length_with_mask_bits}
+use Rattle.crash_images.specs.Tear.{with_mask_bits, torn_by, is_erase, masked}
+use Rattle.crash_images.proofs.TearLaws.{tear_is_torn, applied_masked, torn_masked, applied_nothing, applied_more, applied_erased, length_with_mask_bits, masked_more}
 use Rattle.crash_images.specs.Agrees.{ChangesWithin, StaysOutside}
-use Rattle.crash_images.proofs.AgreesLaws.{within_of_torn, within_wider, within_twice}
-use Rattle.crash_images.specs.TearStep.{MayRefuse, TearLeaves, IsTornByNumber}
+use Rattle.crash_images.proofs.AgreesLaws.{within_of_torn, within_self, within_wider, within_twice}
+use Rattle.crash_images.specs.TearStep.{MayRefuse, TearLeaves, IsTornByNumber, IsMaskedBy}
 use Rattle.crash_images.specs.Cut.{CutMayEnd}
 use Rattle.crash_images.specs.declared.cut.CutSetting.{CutSetting}
 
@@ -150,6 +150,7 @@ erases_any : (erase : Step) → is_erase erase ≡ true → (k a b : ℕ) → (a
     → IsTornByte erase k a b
 erases_any (Erase sector) erases k a b small = small
 erases_any (Program at page) erases k a b small = absurd (cc erases)
+erases_any (Block block) erases k a b small = small
 
 -- what has changed only the range of an erase may be left of it
 within_torn : (erase : Step) → is_erase erase ≡ true → (flash left : List ℕ)
@@ -167,25 +168,20 @@ within_torn erase erases flash left within = record {
 erases_ones : (erase : Step) → is_erase erase ≡ true → (k b : ℕ) → changed_byte erase k b ≡ 255
 erases_ones (Erase sector) erases k b = refl
 erases_ones (Program at page) erases k b = absurd (cc erases)
+erases_ones (Block block) erases k b = refl
 
--- and a tear number leaves the bytes with the bits of their masks set
-erases_part : (erase : Step) → is_erase erase ≡ true → (tear : ℕ) (part : List ℕ)
-    → torn_part erase tear part ≡ with_mask_bits tear 0 part
-erases_part (Erase sector) erases tear part = refl
-erases_part (Program at page) erases tear part = absurd (cc erases)
-
--- the erase, and the bytes with their mask bits put back over it, are the erase torn by the number
-pub erase_torn : (erase : Step) → is_erase erase ≡ true
-    → (at tear len : ℕ) (bytes masks : List ℕ) (old same mid new : Option (List ℕ))
+-- the erase of a range, and its bytes with the bits of their masks set put back over it, set these bits
+pub erase_masked : (erase : Step) → is_erase erase ≡ true
+    → (at tear i len : ℕ) (bytes masks : List ℕ) (old same mid new : Option (List ℕ))
     → at ≡ start_of erase → len ≡ len_of erase
-    → IfSome old (λ flash. bytes ≡ part_of flash at len) → masks ≡ with_mask_bits tear 0 bytes
+    → IfSome old (λ flash. bytes ≡ part_of flash at len) → masks ≡ with_mask_bits tear i bytes
     → ((k : ℕ) → get_or masks k 0 < 256)
     → ((flash : List ℕ) → old ≡ Some flash → end_of erase ≤ length flash)
     → same ≡ old → IsAfter erase same mid → IsAfter (Program at masks) mid new
-    → IsTornByNumber erase tear old new
-erase_torn erase erases at tear len bytes masks None same mid new at_is len_is read mask small
+    → IsMaskedBy at len tear i old new
+erase_masked erase erases at tear i len bytes masks None same mid new at_is len_is read mask small
     inside is one two = tt
-erase_torn erase erases at tear len bytes masks
+erase_masked erase erases at tear i len bytes masks
     (Some flash) same mid new at_is len_is read mask small inside is one two =
     let start = start_of erase in
     let part = take (len_of erase) (drop start flash) in
@@ -193,39 +189,116 @@ erase_torn erase erases at tear len bytes masks
     let two_on = subst (λ (m : Option (List ℕ)). IsAfter (Program at masks) m new) one_on two in
     let bytes_are : bytes ≡ part = read ∙ ap (λ (n : ℕ). take n (drop at flash)) len_is
     ∙ ap (λ (n : ℕ). take (len_of erase) (drop n flash)) at_is in
-    let masks_are : masks ≡ torn_part erase tear part = mask ∙ ap (with_mask_bits tear 0) bytes_are
-    ∙ sym (erases_part erase erases tear part) in
+    let masks_are : masks ≡ with_mask_bits tear i part = mask ∙ ap (with_mask_bits tear i) bytes_are in
     let room = inside flash refl in
     let part_len : length part ≡ len_of erase =
     omega (arith, room, length-take (len_of erase) (drop start flash), length-drop start flash)
     in
     let long : length masks ≡ len_of erase = ap length masks_are
-    ∙ ap length (erases_part erase erases tear part) ∙ length_with_mask_bits tear 0 part ∙ part_len in
+    ∙ length_with_mask_bits tear i part ∙ part_len in
     two_on
     ∙ ap (λ (n : ℕ). Some (applied (applied flash erase) (Program n masks))) at_is
     ∙ ap Some (applied_erased flash erase (erases_ones erase erases) masks long room small)
     ∙ ap (λ (l : List ℕ). Some (take start flash ++ l ++ drop (end_of erase) flash)) masks_are
+    ∙ ap (λ (n : ℕ). Some (masked flash n (len_of erase) tear i)) (sym at_is)
+    ∙ ap (λ (n : ℕ). Some (masked flash at n tear i)) (sym len_is)
 
--- where putting back was refused, the erase is torn
-pub erase_refused : (erase : Step) → is_erase erase ≡ true
-    → (at len : ℕ) (old same mid new : Option (List ℕ)) → at ≡ start_of erase → len ≡ len_of erase
-    → same ≡ old → IsAfter erase same mid → StaysOutside at (at + len) mid new
-    → IsTornBy erase old new
-erase_refused erase erases at len None same mid new at_is len_is is one two = tt
-erase_refused erase erases at len (Some flash) same mid new at_is len_is is one two =
+-- bytes that are the same have not changed outside a range
+pub same_outside : (start end : ℕ) (old new : Option (List ℕ)) → new ≡ old
+    → StaysOutside start end old new
+same_outside start end None new is = tt
+same_outside start end (Some flash) new is = (flash, is, within_self start end flash)
+
+-- nor have those that a step was torn over outside its range
+pub torn_outside : (step : Step) (at len : ℕ) (old same new : Option (List ℕ)) → at ≡ start_of step
+    → len ≡ len_of step → same ≡ old → IsTornBy step same new → StaysOutside at (at + len) old new
+torn_outside step at len None same new at_is len_is is torn = tt
+torn_outside step at len (Some flash) same new at_is len_is is torn =
+    let torn_on = subst (λ (m : Option (List ℕ)). IsTornBy step m new) is torn in
+    let low : at ≤ start_of step = omega arith in
+    let high : end_of step ≤ at + len = omega arith in (
+      torn_on.0,
+      torn_on.1,
+      within_wider (start_of step) (end_of step) at (at + len) flash torn_on.0 low high
+          (within_of_torn flash torn_on.0 step torn_on.2),
+    )
+
+-- what was put back, or refused in between, changed only its range
+pub put_either : (at len : ℕ) (bytes : List ℕ) (old new : Option (List ℕ))
+    (r : Result (Unit {0}) NorFault) → length bytes ≡ len
+    → OnOk r (IsAfter (Program at bytes) old new)
+    → OnErr r (StaysOutside at (at + length bytes) old new) → StaysOutside at (at + len) old new
+put_either at len bytes old new (Ok x) long put refused =
+    let end : at + length bytes ≤ at + len = omega (arith, long) in put_outside at (at + len) bytes old new end put
+put_either at len bytes old new (Err why) long put refused =
+    subst (λ (n : ℕ). StaysOutside at (at + n) old new) long refused
+
+-- the erase of a range, and what was put back over it, changed only this range
+pub erase_outside : (erase : Step) (at len : ℕ) (old same mid new : Option (List ℕ))
+    → at ≡ start_of erase → len ≡ len_of erase → same ≡ old → IsAfter erase same mid
+    → StaysOutside at (at + len) mid new → StaysOutside at (at + len) old new
+erase_outside erase at len None same mid new at_is len_is is one two = tt
+erase_outside erase at len (Some flash) same mid new at_is len_is is one two =
     let one_on = subst (λ (m : Option (List ℕ)). IsAfter erase m mid) is one in
     let two_on = subst (λ (m : Option (List ℕ)). StaysOutside at (at + len) m new) one_on two in
     let first = within_of_torn flash (applied flash erase) erase (torn_applied flash erase) in
-    let low : start_of erase ≤ at = omega arith in
-    let high : at + len ≤ end_of erase = omega arith in
-    let second = within_wider at (at + len) (start_of erase) (end_of erase)
-    (applied flash erase) two_on.0 low high two_on.2 in (
+    let low : at ≤ start_of erase = omega arith in
+    let high : end_of erase ≤ at + len = omega arith in
+    let wider = within_wider (start_of erase) (end_of erase) at (at + len) flash
+    (applied flash erase) low high first in (
       two_on.0,
       two_on.1,
-      within_torn erase erases flash two_on.0
-          (within_twice (start_of erase) (end_of erase) flash
-          (applied flash erase) two_on.0 first second),
+      within_twice at (at + len) flash (applied flash erase) two_on.0 wider two_on.2,
     )
+
+-- what changed only the range of an erase is the erase torn
+pub outside_torn : (erase : Step) → is_erase erase ≡ true → (at len : ℕ)
+    (old new : Option (List ℕ)) → at ≡ start_of erase → len ≡ len_of erase
+    → StaysOutside at (at + len) old new → IsTornBy erase old new
+outside_torn erase erases at len None new at_is len_is within = tt
+outside_torn erase erases at len (Some flash) new at_is len_is within =
+    let low : start_of erase ≤ at = omega arith in
+    let high : at + len ≤ end_of erase = omega arith in (
+      within.0,
+      within.1,
+      within_torn erase erases flash within.0
+          (within_wider at (at + len) (start_of erase) (end_of erase) flash within.0 low high within.2),
+    )
+
+-- one part more changed only the wider range
+pub outside_more : (low high at len : ℕ) (old mid new : Option (List ℕ)) → low ≤ at
+    → at + len ≤ high → StaysOutside low high old mid → StaysOutside at (at + len) mid new
+    → StaysOutside low high old new
+outside_more low high at len None mid new from to one two = tt
+outside_more low high at len (Some flash) mid new from to one two =
+    let two_on = subst (λ (m : Option (List ℕ)). StaysOutside at (at + len) m new) one.1 two in (
+      two_on.0,
+      two_on.1,
+      within_twice low high flash one.0 two_on.0 one.2
+          (within_wider at (at + len) low high one.0 two_on.0 from to two_on.2),
+    )
+
+-- no byte was masked yet
+pub masked_none : (at tear : ℕ) (told : Option (List ℕ)) → IsMaskedBy at 0 tear 0 told told
+masked_none at tear None = tt
+masked_none at tear (Some flash) =
+    let same : at ≡ at + 0 = omega arith in
+    ap Some (sym (take-append-drop at flash)
+    ∙ ap (λ (l : List ℕ). l ++ drop at flash) (sym (append-nil (take at flash)))
+    ∙ ap (λ (n : ℕ). take at flash ++ [] ++ drop n flash) same)
+
+-- one part more was masked
+pub masked_next : (at len more next first tear : ℕ) (old mid new : Option (List ℕ))
+    → ((flash : List ℕ) → old ≡ Some flash → at + len ≤ length flash) → next ≡ at + len
+    → first ≡ len → IsMaskedBy at len tear 0 old mid → IsMaskedBy next more tear first mid new
+    → IsMaskedBy at (len + more) tear 0 old new
+masked_next at len more next first tear None mid new inside next_is first_is one two = tt
+masked_next at len more next first tear (Some flash) mid new inside next_is first_is one two =
+    let two_on = subst (λ (m : Option (List ℕ)). IsMaskedBy next more tear first m new) one two in
+    two_on
+    ∙ ap (λ (n : ℕ). Some (masked (masked flash at len tear 0) n more tear first)) next_is
+    ∙ ap (λ (n : ℕ). Some (masked (masked flash at len tear 0) (at + len) more tear n)) (first_is ∙ sym (zero-add len))
+    ∙ ap Some (masked_more flash at len more tear 0 (inside flash refl))
 
 -- what a step leaves is the same from told bytes that are the same
 pub refused_on : (step : Step) (old same new : Option (List ℕ)) → same ≡ old

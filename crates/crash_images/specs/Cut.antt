@@ -1,5 +1,7 @@
 -- The device whose power goes off, or which fails, in a step of a chosen number.
 use Rattle.std.specs.Prelude.{◌≡◌, ◌⊎◌, ℕ, ◌<◌, nat_lt, if◌then◌else◌, Bool, true, false, List, Option, Some, None}
+use Rattle.std.proofs.Common.{subst, inl, inr}
+use Rattle.std.proofs.Math.Nat.{lt_irrefl}
 use Rattle.nor_device.specs.declared.step.Step.{Step}
 use Rattle.nor_device.specs.declared.nor.StepEnd.{StepEnd}
 use Rattle.nor_device.specs.declared.nor.StepEnd.TheVariants as ends
@@ -92,6 +94,21 @@ EndsBy cut fail n ends.Done = IsAhead cut n × IsAhead fail n
 EndsBy cut fail n ends.Cut = cut ≡ Some n
 EndsBy cut fail n ends.Failed = fail ≡ Some n
 
+-- a number that is still to come is not this one
+not_ahead : (chosen : Option ℕ) (n : ℕ) → IsAhead chosen n → ¬ (chosen ≡ Some n)
+not_ahead chosen n ahead is = lt_irrefl n (subst (λ (c : Option ℕ). IsAhead c n) is ahead)
+
+-- the step was made whole
+abbrev pub IsDone : StepEnd → Type 0
+IsDone ends.Done = Unit {0}
+IsDone ends.Failed = ⊥
+IsDone ends.Cut = ⊥
+
+-- no refused step was
+pub refused_not_done : (why : NorFault) → ¬ IsDone (end_by why)
+refused_not_done faults.Off done = done
+refused_not_done faults.Failed done = done
+
 module _ {S : Type 0} (may_end : S → ℕ → StepEnd → Type 0)
     (may_refuse : S → ℕ → NorFault → Type 0) where
   -- a step ends by the choice, or badly where the device inside may refuse a call
@@ -108,6 +125,13 @@ module _ {S : Type 0} (may_end : S → ℕ → StepEnd → Type 0)
   abbrev pub CutMayRefuse : CutSetting S → ℕ → NorFault → Type 0
   CutMayRefuse set n why =
       EndsBy set.cut set.fail n (end_by why) ⊎ MayRefuse may_end may_refuse set.inner
+
+  -- behind a step that was made whole no call need be refused: the chosen one is another
+  pub cut_goes_on : (set : CutSetting S) (n : ℕ) → CutMayEnd set n ends.Done
+      → ¬ IsBad set.cut set.fail n
+  cut_goes_on set n (inl done) (inl is) = not_ahead set.cut n done.0 is
+  cut_goes_on set n (inl done) (inr is) = not_ahead set.fail n done.1 is
+  cut_goes_on set n (inr refused) bad = refused_not_done refused.1.0 (subst IsDone refused.1.1 tt)
 
 -- a step is due to be torn: it may be started inside, and its number is the chosen one
 pub record IsDue {D : Type 0} (running : D → Option Step) (size : D → ℕ) (device : CutDevice D)

@@ -3,3 +3,4 @@ pub mod TearStep
 pub mod Crash
 pub mod Agrees
 pub mod Cut
+pub mod Flaky

@@ -1,7 +1,7 @@
 -- The one torn flash that a tear number names.
 use Rattle.std.specs.Prelude.{ℕ, ◌+◌, ◌/◌, ◌%◌, Bool, true, false, ◌&&◌, nat_le, nat_lt, if◌then◌else◌, List, [], ◌∷◌, ◌++◌, take, drop, slice_index, bit_and, bit_or}
 use Rattle.nor_device.specs.declared.step.Step.{Step}
-use Rattle.nor_device.specs.declared.step.Step.TheVariants.{Erase, Program}
+use Rattle.nor_device.specs.declared.step.Step.TheVariants.{Erase, Program, Block}
 use Rattle.nor_device.specs.Flash.{start_of, len_of, end_of, anded}
 
 -- bits 0 to 7 of the tear number: the mask of the bytes in its window
@@ -40,6 +40,7 @@ with_mask_bits tear i (byte ∷ bytes) = bit_or byte (mask_at tear i) ∷ with_m
 abbrev pub torn_part : Step → ℕ → List ℕ → List ℕ
 torn_part (Erase sector) tear part = with_mask_bits tear 0 part
 torn_part (Program at page) tear part = anded part (with_mask_bits tear 0 page)
+torn_part (Block block) tear part = with_mask_bits tear 0 part
 
 -- what is left of the flash: its range is torn by the number, and all else is as before
 abbrev pub torn_by : List ℕ → Step → ℕ → List ℕ
@@ -52,8 +53,15 @@ torn_by flash step tear =
 abbrev pub is_erase : Step → Bool
 is_erase (Erase sector) = true
 is_erase (Program at page) = false
+is_erase (Block block) = true
 
 -- the data byte for the k-th byte of the range: an erase writes 0xFF
 abbrev pub data_byte_of : Step → ℕ → ℕ
 data_byte_of (Erase sector) k = 255
 data_byte_of (Program at page) k = slice_index page k
+data_byte_of (Block block) k = 255
+
+-- the flash in which as many bytes from the address on have the bits of their masks set: the i-th and the next of a range
+abbrev pub masked : List ℕ → ℕ → ℕ → ℕ → ℕ → List ℕ
+masked flash at len tear i =
+    take at flash ++ with_mask_bits tear i (take len (drop at flash)) ++ drop (at + len) flash

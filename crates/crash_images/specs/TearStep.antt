@@ -5,7 +5,7 @@ use Rattle.nor_device.specs.declared.nor.StepEnd.{StepEnd}
 use Rattle.nor_device.specs.declared.nor.NorFault.{NorFault}
 use Rattle.nor_device.specs.Flash.{end_of, IsInOnePage}
 use Rattle.nor_device.specs.Nor.{end_by, HasCause, KeepsSetting}
-use Rattle.crash_images.specs.Tear.{torn_by}
+use Rattle.crash_images.specs.Tear.{torn_by, masked}
 
 -- the step may be started: no step runs, it keeps to a page, and its range lies inside
 pub record MayStart {D : Type 0} (running : D → Option Step) (size : D → ℕ) (device : D)
@@ -30,6 +30,10 @@ TearLeaves may_end may_refuse setting tear flash step left =
 -- where the device tells its bytes, they are those that the tear number names
 abbrev pub IsTornByNumber : Step → ℕ → Option (List ℕ) → Option (List ℕ) → Type 0
 IsTornByNumber step tear old new = IfSome old (λ flash. new ≡ Some (torn_by flash step tear))
+
+-- where the device tells its bytes, as many from the address on have the bits of their masks set, from the i-th on
+abbrev pub IsMaskedBy : ℕ → ℕ → ℕ → ℕ → Option (List ℕ) → Option (List ℕ) → Type 0
+IsMaskedBy at len tear i old new = IfSome old (λ flash. new ≡ Some (masked flash at len tear i))
 
 -- what each call that tears a step keeps: no step runs after it, size and setting stay, and a refusal has its cause
 -- and is one that the setting allows

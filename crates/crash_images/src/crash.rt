@@ -4,6 +4,7 @@
 
 ghost use Rattle.std.specs.Prelude.{◌≡◌, ◌↔◌, ℕ, List, None, Some};
 ghost use Rattle.nor_device.specs.declared.step.Step.{Step};
+ghost use Rattle.nor_device.specs.declared.nor.StepEnd.TheVariants as ends;
 ghost use Rattle.nor_device.specs.Torn.{Torn};
 
 use nor_device::{Nor, RamNor};
@@ -22,6 +23,10 @@ pub trait Crash: Nor {
     ghost torn_leaves: { (device : Self) (step : Step) (flash left : List ℕ)
         → Self.running device ≡ Some step → Self.bytes device ≡ Some flash
         → may_leave device left ↔ Torn flash step left };
+
+    /// Behind a step that was made whole the device need not refuse a call.
+    ghost goes_on: { (set : Self.Setting) (n : ℕ)
+        → Self.may_end set n ends.Done → ¬ Self.must_refuse set n };
 }
 
 impl Crash for RamNor {
@@ -32,4 +37,6 @@ impl Crash for RamNor {
     ghost idle_leaves = { λ d. idle_leaves (Self.bytes d) (Self.running d) };
 
     ghost torn_leaves = { λ d. running_leaves (Self.bytes d) (Self.running d) };
+
+    ghost goes_on = { λ set n done never. never };
 }

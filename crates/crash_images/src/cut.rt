@@ -1,6 +1,6 @@
 //! A device over another, whose power goes off, or which fails, in the step of a chosen number.
 
-ghost use Rattle.std.specs.Prelude.{◌≡◌, ◌+◌, true, false, None, IsSome, IfErr, OnOk};
+ghost use Rattle.std.specs.Prelude.{◌≡◌, ◌+◌, ◌≤◌, true, false, None, IsSome, IfErr, OnOk};
 ghost use Rattle.nor_device.specs.Nor.{one_more};
 ghost use Rattle.crash_images.specs.Cut.{cut_device, IsAhead, NotBoth, IsBad, running_by, left_by, restarted, unspent_of, health_by};
 
@@ -231,12 +231,15 @@ impl<D: Nor> Nor for CutNor<D> {
 
 impl<D: Nor> Crash for CutNor<D> {
     ghost use Rattle.crash_images.specs.Crash.{MayLeave, idle_leaves, running_leaves};
+    ghost use Rattle.crash_images.specs.Cut.{cut_goes_on};
 
     ghost may_leave = { λ d left. MayLeave (Self.bytes d) (Self.running d) left };
 
     ghost idle_leaves = { λ d. idle_leaves (Self.bytes d) (Self.running d) };
 
     ghost torn_leaves = { λ d. running_leaves (Self.bytes d) (Self.running d) };
+
+    ghost goes_on = { λ set n. cut_goes_on D.may_end D.may_refuse set n };
 }
 
 /// What the first poll of a step that is due answers: what the device inside did, else as was chosen.
@@ -264,8 +267,9 @@ fn health_after(why: NorFault) -> Health
 }
 
 /// One failure more.
-fn count_fault(faults: &mut u64) -> NorFault
+pub(crate) fn count_fault(faults: &mut u64) -> NorFault
     ensures counted { faults.new ≡ one_more faults.old }
+    ensures rises { faults.old ≤ faults.new }
     ensures answer { result ≡ NorFault.Failed }
 {
     *faults = faults.saturating_add(1);

@@ -3,12 +3,14 @@
 
 mod crash;
 mod cut;
+mod flaky;
 mod laws;
 mod tear;
 mod tear_step;
 
 pub use crash::Crash;
 pub use cut::{CutNor, CutSetting, Health};
+pub use flaky::{FlakyNor, FlakySetting};
 pub use laws::{
     laws_of_chosen_steps, laws_of_power_loss, laws_of_tear_numbers, laws_of_told_bytes,
     power_loss_leaves, setting_of_cut_nor_over_ram_nor,

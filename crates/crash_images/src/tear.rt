@@ -34,11 +34,11 @@ fn mask_at(tear: u64, i: u64) -> u8
     }
 }
 
-/// Sets the bits of its mask in each byte.
-pub(crate) fn set_mask_bits(bytes: &mut [u8], tear: u64)
-    ensures exact { bytes.new ≡ with_mask_bits tear 0 bytes.old }
+/// Sets the bits of its mask in each byte; the first is byte `first` of the range.
+pub(crate) fn set_mask_bits(bytes: &mut [u8], first: u32, tear: u64)
+    ensures exact { bytes.new ≡ with_mask_bits tear first bytes.old }
 {
     for i in 0..bytes.len() {
-        bytes[i] |= mask_at(tear, i as u64);
+        bytes[i] |= mask_at(tear, first as u64 + i as u64);
     }
 }

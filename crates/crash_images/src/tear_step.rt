@@ -1,13 +1,12 @@
 //! A torn step is made on the device by steps: a program with the bits of the mask left in
 //! its data, and an erase that is followed by programs of the bytes with the bits of the mask set.
 
-ghost use Rattle.std.specs.Prelude.{◌≡◌, ℕ, ◌+◌, ◌%◌, ◌<◌, ◌≤◌, ◌^◌, true, None, Some, OnOk, OnErr, length, slice_index};
-ghost use Rattle.nor_device.specs.declared.step.Step.TheVariants.{Erase, Program};
-ghost use Rattle.nor_device.specs.Flash.{start_of, len_of};
+ghost use Rattle.std.specs.Prelude.{◌≡◌, ℕ, ◌+◌, ◌*◌, ◌%◌, ◌<◌, ◌≤◌, ◌^◌, true, None, Some, OnOk, OnErr, length, slice_index};
+ghost use Rattle.nor_device.specs.declared.step.Step.TheVariants.{Erase, Program, Block};
 ghost use Rattle.nor_device.specs.Nor.{IsLeftTorn};
 ghost use Rattle.nor_device.specs.Make.{IsAfter, IsTornBy};
-ghost use Rattle.crash_images.specs.Tear.{with_mask_bits, is_erase};
-ghost use Rattle.crash_images.specs.TearStep.{MayStart, LeavesIdle, TearLeaves, IsTornByNumber};
+ghost use Rattle.crash_images.specs.Tear.{with_mask_bits};
+ghost use Rattle.crash_images.specs.TearStep.{MayStart, LeavesIdle, TearLeaves, IsTornByNumber, IsMaskedBy};
 ghost use Rattle.crash_images.specs.Agrees.{StaysOutside};
 
 use crate::tear::set_mask_bits;
@@ -35,6 +34,7 @@ fn tear_by_kind<D: Nor>(inner: &mut D, step: &Step, tear: u64) -> Result<(), Nor
     match step {
         Step::Erase { sector } => tear_erase(inner, *sector, tear),
         Step::Program { at, bytes } => tear_program(inner, *at, bytes, tear),
+        Step::Block { block } => tear_block(inner, *block, tear),
     }
 }
 
@@ -61,7 +61,7 @@ fn page_with_mask_bits(page: &Page, tear: u64) -> Page
     let mut buffer = [0; PAGE_SIZE];
     let part = &mut buffer[..bytes.len()];
     part.copy_from_slice(bytes);
-    set_mask_bits(part, tear);
+    set_mask_bits(part, 0, tear);
     let Some(page) = Page::of(part) else {
         unreachable!();
     };
@@ -78,36 +78,56 @@ fn tear_erase<D: Nor>(inner: &mut D, sector: u32, tear: u64) -> Result<(), NorFa
         inner.old inner.new result }
 {
     let mut part = [0; 4096];
-    tear_range(
-        inner,
-        &Step::Erase { sector },
-        sector * SECTOR_SIZE,
-        &mut part,
-        tear,
-    )
+    tear_sector(inner, sector, &mut part, 0, tear)
 }
 
-/// Makes what the tear number leaves of an erase of the range from `at` on, with room for its bytes.
-fn tear_range<D: Nor>(
-    inner: &mut D,
-    erase: &Step,
-    at: u32,
-    part: &mut [u8],
-    tear: u64,
-) -> Result<(), NorFault>
-    requires erases { is_erase erase.now ≡ true }
-    requires range { (at ≡ start_of erase.now) × (length part.old ≡ len_of erase.now) }
-    requires pages { (at % 256 ≡ 0) × (length part.old % 256 ≡ 0) }
-    requires some { 1 ≤ length part.old }
-    requires start { MayStart D.running D.size inner.old erase.now }
-    ensures torn { OnOk result (IsTornByNumber erase.now tear (D.bytes inner.old) (D.bytes inner.new)) }
-    ensures refused { OnErr result (IsTornBy erase.now (D.bytes inner.old) (D.bytes inner.new)) }
+/// Makes what the tear number leaves of the erase of a block, sector by sector.
+fn tear_block<D: Nor>(inner: &mut D, block: u32, tear: u64) -> Result<(), NorFault>
+    requires start { MayStart D.running D.size inner.old (Block block) }
+    ensures torn { OnOk result
+        (IsTornByNumber (Block block) tear (D.bytes inner.old) (D.bytes inner.new)) }
+    ensures refused { OnErr result (IsTornBy (Block block) (D.bytes inner.old) (D.bytes inner.new)) }
     ensures kept { LeavesIdle D.running D.size D.off D.faults D.setting D.may_end D.may_refuse
         inner.old inner.new result }
 {
+    let mut part = [0; 4096];
+    let mut done = 0;
+    while done < 16 {
+        tear_sector(
+            inner,
+            block * 16 + done,
+            &mut part,
+            done * SECTOR_SIZE,
+            tear,
+        )?;
+        done += 1;
+    }
+    Ok(())
+}
+
+/// Sets the bits of their masks in the bytes of a sector, with room for them; the first is byte
+/// `first` of the range of the step that is torn.
+fn tear_sector<D: Nor>(
+    inner: &mut D,
+    sector: u32,
+    part: &mut [u8],
+    first: u32,
+    tear: u64,
+) -> Result<(), NorFault>
+    requires room { length part.old ≡ 4096 }
+    requires start { MayStart D.running D.size inner.old (Erase sector) }
+    ensures masked { OnOk result
+        (IsMaskedBy (sector * 4096) 4096 tear first (D.bytes inner.old) (D.bytes inner.new)) }
+    ensures outside { StaysOutside (sector * 4096) (sector * 4096 + 4096)
+        (D.bytes inner.old) (D.bytes inner.new) }
+    ensures room { length part.new ≡ 4096 }
+    ensures kept { LeavesIdle D.running D.size D.off D.faults D.setting D.may_end D.may_refuse
+        inner.old inner.new result }
+{
+    let at = sector * SECTOR_SIZE;
     inner.read(at, part)?;
-    set_mask_bits(part, tear);
-    make_step(inner, erase)?;
+    set_mask_bits(part, first, tear);
+    make_step(inner, &Step::Erase { sector })?;
     put_back(inner, at, part)
 }
 
