@@ -31,7 +31,7 @@ _flash_cli() {
         table-show:2) compopt -o filenames 2>/dev/null; mapfile -t COMPREPLY < <(compgen -f -- "$word") ;;
         flash-make:2) compopt -o filenames 2>/dev/null; mapfile -t COMPREPLY < <(compgen -f -- "$word") ;;
         flash-make:3) compopt -o filenames 2>/dev/null; mapfile -t COMPREPLY < <(compgen -f -- "$word") ;;
-        flash-make:4) COMPREPLY=($(compgen -W "1048576 2097152 4194304 8388608 16777216" -- "$word")) ;;
+        flash-make:4) COMPREPLY=($(compgen -W "1048576 2097152 4194304 8388608 16777216 33554432" -- "$word")) ;;
         flash-make:5) compopt -o filenames 2>/dev/null; mapfile -t COMPREPLY < <(compgen -f -- "$word") ;;
         update:2) compopt -o filenames 2>/dev/null; mapfile -t COMPREPLY < <(compgen -f -- "$word") ;;
         update:3) compopt -o filenames 2>/dev/null; mapfile -t COMPREPLY < <(compgen -f -- "$word") ;;

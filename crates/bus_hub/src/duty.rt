@@ -1,8 +1,8 @@
 //! What the cores may do to the flash, and which flashes are good meanwhile.
 
-ghost use Rattle.std.specs.Prelude.{◌≡◌, ◌≢◌, ◌↔◌, ℕ, ◌<◌, IsTrue, List};
+ghost use Rattle.std.specs.Prelude.{◌≡◌, ◌≢◌, ◌↔◌, ℕ, ◌<◌, ◌≤◌, ◌^◌, IsTrue, List};
 ghost use Rattle.nor_device.specs.declared.step.Step.{Step};
-ghost use Rattle.nor_device.specs.Flash.{applied};
+ghost use Rattle.nor_device.specs.Flash.{applied, end_of};
 ghost use Rattle.nor_device.specs.Torn.{Torn};
 
 use nor_device::Step;
@@ -36,6 +36,7 @@ pub trait Duty {
     /// Whether a core may make the step.
     fn allows(&self, core: u8, step: &Step) -> bool
         requires core { core < 2 }
+        requires small { end_of step.now ≤ 2 ^ 32 }
         ensures meaning { IsTrue result ↔ grants (part self.now core) step.now };
 
     /// A core has made the step.

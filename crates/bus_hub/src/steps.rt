@@ -25,10 +25,7 @@ fn open_act(step: &Step) -> Act
     ensures exact { result ≡ opening step.now }
 {
     let (at, len) = step.range();
-    let erase = match step {
-        Step::Erase { .. } => true,
-        Step::Program { .. } => false,
-    };
+    let erase = !matches!(step, Step::Program { .. });
     Act::Open { erase, at, len }
 }
 

@@ -24,6 +24,6 @@ abbrev pub answer_of_rows : List ℕ → Result (List Row) CsvNo → Result Answ
 answer_of_rows out (Ok rows) = Ok (record { text = rows_line rows; puts = (out, table_text rows) ∷ [] })
 answer_of_rows out (Err problem) = Err (csv_refusal problem)
 
--- what the command comes to on a source, for a flash of 16 MiB
+-- what the command comes to on a source, for a flash of 32 MiB
 abbrev pub table_make_answer : List ℕ → List ℕ → Result Answer Refusal
-table_make_answer out csv = answer_of_rows out (table_of_source csv 16777216)
+table_make_answer out csv = answer_of_rows out (table_of_source csv 33554432)

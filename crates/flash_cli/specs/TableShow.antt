@@ -24,6 +24,6 @@ file_rows bytes flash =
     if length bytes == 3072 then rows_or_refusal (table_of bytes flash)
     else Err (TableLength (length bytes))
 
--- what the command comes to on a table file, for a flash of 16 MiB
+-- what the command comes to on a table file, for a flash of 32 MiB
 abbrev pub table_show_answer : List ℕ → Result Answer Refusal
-table_show_answer bytes = answer_of_file (file_rows bytes 16777216)
+table_show_answer bytes = answer_of_file (file_rows bytes 33554432)

@@ -58,8 +58,18 @@ version -
 project -
 ";
 
+/// The source with the last partition behind the first 16 MiB.
+const HIGH_SOURCE: &[u8] = b"nvs, data, nvs, , 0x4000,
+otadata, data, ota, , 0x2000,
+phy_init, data, phy, , 0x1000,
+factory, app, factory, , 1M,
+ota_0, app, ota_0, , 1M,
+ota_1, app, ota_1, 0x1000000, 1M,
+";
+
 /// Names of files, each with its bytes.
-const FILES: [(&str, &[u8]); 12] = [
+const FILES: [(&str, &[u8]); 13] = [
+    ("high.csv", HIGH_SOURCE),
     ("bare.csv", b"a, app, factory, , 1M,"),
     ("a.bin", b"\x01\x02\x03\x04"),
     ("b.bin", b"\x05\x06\x07\x08"),
@@ -129,7 +139,7 @@ pub(crate) fn store_of_all(alloc: Global) -> Result<MemStore, PutFault> {
 type Call<'a> = (&'a [&'a str], u8, &'a str);
 
 /// The calls that are carried out, in order.
-fn done_calls<'a>() -> [Call<'a>; 13] {
+fn done_calls<'a>() -> [Call<'a>; 16] {
     [
         (&["table-make", "t.csv", "T"], 0, "rows 6\n"),
         (&["table-make", "bare.csv", "bare"], 0, "rows 1\n"),
@@ -152,11 +162,14 @@ fn done_calls<'a>() -> [Call<'a>; 13] {
             "length 48\n",
         ),
         (&["choose", "F"], 0, BLANK_LINES),
+        (&["table-make", "high.csv", "high"], 0, "rows 6\n"),
+        (&["flash-make", "T", "A", "33554432", "H"], 0, "length 80\n"),
+        (&["choose", "H"], 0, BLANK_LINES),
     ]
 }
 
 /// The calls that are refused, or are no command, after those.
-fn refused_calls<'a>() -> [Call<'a>; 20] {
+fn refused_calls<'a>() -> [Call<'a>; 21] {
     [
         (&["image-make", "none", "X"], 2, "refused: absent none\n"),
         (
@@ -225,6 +238,11 @@ fn refused_calls<'a>() -> [Call<'a>; 20] {
             &["flash-make", "bare", "empty", "4194304", "X"],
             2,
             "refused: table no otadata\n",
+        ),
+        (
+            &["flash-make", "high", "empty", "33554432", "X"],
+            2,
+            "refused: table app high row 5\n",
         ),
         (
             &["flash-make", "T", "L", "4194304", "X"],

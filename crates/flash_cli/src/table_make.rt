@@ -16,7 +16,7 @@ use pipe_ends::{Memory, Store};
 use std::alloc::Global;
 
 /// The size of the largest flash, which the tables of files are for.
-pub(crate) const LARGEST_FLASH: u32 = 16_777_216;
+pub(crate) const LARGEST_FLASH: u32 = 33_554_432;
 
 /// Carries out `table-make`: the file with the table that a source means, or why it means none.
 pub(crate) fn run_table_make<S: Store>(

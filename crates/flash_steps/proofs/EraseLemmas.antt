@@ -7,10 +7,10 @@ use Rattle.std.proofs.lemmas.Bool.{cases_lt}
 use Rattle.std.proofs.lemmas.List.{ext_get_or, get_or-replicate, length-replicate, length-take}
 use Rattle.std.proofs.lemmas.Nat.{and_comm, and_mask}
 use Rattle.nor_device.specs.declared.step.Step.TheVariants.{Erase, Program}
-use Rattle.nor_device.specs.Flash.{after_steps, applied}
+use Rattle.nor_device.specs.Flash.{IsErase, after_steps, applied}
 use Rattle.nor_device.proofs.FlashLaws.{byte_after_inside, byte_after_outside, after_steps_append, byte_applied, length-after_steps, length_applied}
 use Rattle.nor_device.proofs.Splice.{length-spliced, spliced_above, spliced_below, spliced_within}
-use Rattle.flash_steps.specs.Steps.{FollowOn, IsErase, IsErasedAt, LiesIn, erase_steps, erases, with_part, write_steps}
+use Rattle.flash_steps.specs.Steps.{FollowOn, IsErasedAt, LiesIn, erase_steps, erases, with_part, write_steps}
 use Rattle.flash_steps.proofs.FollowLemmas.{lie_in}
 use Rattle.flash_steps.proofs.WriteLemmas.{whole_write}
 

@@ -1,7 +1,7 @@
 -- The steps of a write and of an erase in a flash.
 use Rattle.std.specs.Prelude.{◌≡◌, ◌≤◌, ◌<◌, ℕ, zero, suc, ◌+◌, ◌-◌, ◌/◌, ◌%◌, ◌==◌, if◌then◌else◌, List, [], ◌∷◌, ◌++◌, length, take, drop, slice_index}
 use Rattle.nor_device.specs.declared.step.Step.{Step}
-use Rattle.nor_device.specs.declared.step.Step.TheVariants.{Erase, Program}
+use Rattle.nor_device.specs.declared.step.Step.TheVariants.{Erase, Program, Block}
 use Rattle.nor_device.specs.Flash.{end_of, start_of}
 
 -- how many bytes there are from an address to the end of its page
@@ -46,11 +46,7 @@ LiesIn from to step = (from ≤ start_of step) × (end_of step ≤ to)
 abbrev pub IsPageProgram : Step → Type 0
 IsPageProgram (Erase sector) = ⊥
 IsPageProgram (Program at page) = (1 ≤ length page) × (at % 256 + length page ≤ 256)
-
--- a step is an erase
-abbrev pub IsErase : Step → Type 0
-IsErase (Erase sector) = Unit {0}
-IsErase (Program at page) = ⊥
+IsPageProgram (Block block) = ⊥
 
 -- a flash with these bytes from an address on, and all else as before
 abbrev pub with_part : ℕ → List ℕ → List ℕ → List ℕ

@@ -4,12 +4,12 @@ ghost use Rattle.std.specs.Prelude.{◌≡◌, ◌≤◌, ◌<◌, ◌↔◌, �
 ghost use Rattle.std.specs.List.{AllByRecursion};
 ghost use Rattle.nor_device.specs.declared.step.Step.{Step};
 ghost use Rattle.nor_device.specs.declared.step.Step.TheVariants.{Erase, Program};
-ghost use Rattle.nor_device.specs.Flash.{after_steps, applied, end_of, start_of};
+ghost use Rattle.nor_device.specs.Flash.{IsErase, after_steps, applied, end_of, start_of};
 ghost use Rattle.partition_table.specs.declared.row.Row.{Row as Shown};
 ghost use Rattle.partition_table.specs.Rules.{FitsFlash};
 ghost use Rattle.flash_steps.specs.Parts.{IsOpenAddress, LiesInOpenPart, LiesInPart, open_addresses, part_erase_steps, part_write_steps};
 ghost use Rattle.flash_steps.specs.Rules.{erase_checked, write_checked};
-ghost use Rattle.flash_steps.specs.Steps.{FollowOn, IsErase, IsErasedAt, IsPageProgram, LiesIn, erase_steps, pages_in, with_part, write_steps};
+ghost use Rattle.flash_steps.specs.Steps.{FollowOn, IsErasedAt, IsPageProgram, LiesIn, erase_steps, pages_in, with_part, write_steps};
 
 /// A write is as many programs as it touches pages, each of at least one byte in one page; they lie
 /// in its range and follow one another. They make of a flash what one program of all bytes would,

@@ -2,6 +2,7 @@
 #![tactic(auto)]
 
 mod laws;
+mod parts;
 mod refusal;
 mod rules;
 mod steps;
@@ -9,6 +10,7 @@ mod steps;
 mod tests;
 
 pub use laws::{laws_of_erases, laws_of_open_parts, laws_of_parts, laws_of_writes};
+pub use parts::{is_open, lies_in};
 pub use refusal::PartNo;
 pub use rules::{check_erase, check_write, row_barred};
 pub use steps::next_program;

@@ -1,6 +1,6 @@
 //! What no clause says: rows from outside.
 
-use crate::{PartNo, check_erase, check_write, next_program};
+use crate::{PartNo, check_erase, check_write, is_open, lies_in, next_program};
 use nor_device::Step;
 use partition_table::{Row, Table, padded_label};
 use std::test::Fail;
@@ -102,7 +102,7 @@ fn first_of(at: u32, bytes: &[u8]) -> Option<(usize, usize)> {
     let (step, rest) = next_program(at, bytes)?;
     match step {
         Step::Program { bytes, .. } => Some((bytes.bytes().len(), rest.len())),
-        Step::Erase { .. } => None,
+        _ => None,
     }
 }
 
@@ -121,4 +121,32 @@ fn a_write_is_cut_at_the_ends_of_pages(rt: HostRuntime) {
             assert_eq!(rt; first_of(at, &bytes[done..]), want, "at {at}");
         }
     }
+}
+
+#[test]
+fn a_step_is_open_where_one_partition_that_may_be_changed_has_it_all(
+    rt: HostRuntime,
+) -> Result<(), Fail> {
+    let table = table()?;
+    let rows = table.rows();
+    assert!(rt; is_open(rows, &Step::Erase { sector: 0xC }), "nvs");
+    assert!(rt; !is_open(rows, &Step::Erase { sector: 0xD }), "OTA data");
+    assert!(rt; !is_open(rows, &Step::Erase { sector: 0x10 }), "readonly");
+    assert!(rt;
+        !is_open(rows, &Step::Erase { sector: 0xF_FFFF }),
+        "no partition"
+    );
+    assert!(rt; !is_open(rows, &Step::Block { block: 0 }), "more than nvs");
+    assert!(rt; !is_open(rows, &Step::Block { block: 2 }), "an application");
+    let storage = row(1, 0x82, 0x10000, 0x20000, b"storage", 0);
+    assert!(rt;
+        lies_in(&storage, &Step::Block { block: 2 }),
+        "the last block"
+    );
+    assert!(rt; !lies_in(&storage, &Step::Block { block: 3 }), "behind it");
+    assert!(rt;
+        lies_in(&storage, &Step::Erase { sector: 0x10 }),
+        "the first sector"
+    );
+    Ok(())
 }

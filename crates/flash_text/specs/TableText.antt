@@ -5,7 +5,7 @@ use Rattle.part_csv.specs.declared.refusal.CsvWhy.{CsvWhy}
 use Rattle.part_csv.specs.declared.refusal.CsvWhy.TheVariants as why
 use Rattle.partition_table.specs.declared.row.Row.{Row}
 use Rattle.partition_table.specs.declared.bad.TableBad.{TableBad}
-use Rattle.partition_table.specs.declared.bad.TableBad.TheVariants.{Magic, Md5, NoEnd, Align, Range, Overlap, TwoOf, NoOtadata, OtadataSize, OtadataFlags, NoFactory, SlotGap}
+use Rattle.partition_table.specs.declared.bad.TableBad.TheVariants.{Magic, Md5, NoEnd, Align, Range, Overlap, TwoOf, NoOtadata, OtadataSize, OtadataFlags, NoFactory, SlotGap, AppHigh}
 
 -- two numbers
 abbrev pub pair_text : ℕ → ℕ → List ℕ
@@ -25,6 +25,7 @@ table_bad_text (OtadataSize size) = codes "table otadata size " ++ decimal size
 table_bad_text (OtadataFlags flags) = codes "table otadata flags " ++ decimal flags
 table_bad_text NoFactory = codes "table no factory"
 table_bad_text (SlotGap slot) = codes "table slot gap " ++ decimal slot
+table_bad_text (AppHigh row) = codes "table app high row " ++ decimal row
 
 -- what is wrong with a record, in a word
 abbrev pub csv_why_text : CsvWhy → List ℕ

@@ -12,7 +12,7 @@ use partition_table::TableBad;
 pub enum Refusal {
     /// The store has no file of this name. Files are numbered from 0, as the command reads them.
     Absent { file: u32 },
-    /// The file isn't as long as a flash, which has 1, 2, 4, 8 or 16 MiB.
+    /// The file isn't as long as a flash, which has 1, 2, 4, 8, 16 or 32 MiB.
     FlashSize { size: u64 },
     /// The file isn't as long as a table, which has 3,072 bytes.
     TableLength { length: u64 },

@@ -29,6 +29,7 @@ pub(crate) fn put_table_bad(out: &mut Vec<u8>, why: TableBad) -> Result<(), Memo
         TableBad::OtadataFlags { flags } => put_value(out, "table otadata flags ", flags),
         TableBad::NoFactory => put_text(out, "table no factory"),
         TableBad::SlotGap { slot } => put_row(out, "table slot gap ", slot),
+        TableBad::AppHigh { row } => put_row(out, "table app high row ", row),
     }
 }
 

@@ -56,6 +56,10 @@ fn of_tables<'a>() -> [(Refusal, &'a str); 17] {
             "table slot gap 1",
         ),
         (
+            Refusal::Table(TableBad::AppHigh { row: 5 }),
+            "table app high row 5",
+        ),
+        (
             Refusal::Csv {
                 number: 95,
                 why: CsvWhy::TooManyRows,

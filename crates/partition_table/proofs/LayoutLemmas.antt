@@ -2,13 +2,17 @@
 use Rattle.std.proofs.Common.{◌≡◌, ◌≢◌, ℕ, zero, suc, ◌+◌, ◌%◌, ◌<◌, ◌≤◌, List, [], ◌∷◌, Bool, true, false, length, Option, Some, None, Ok, Err, refl, sym, ap, subst, ◌∙◌, ◌⊎◌, inl, inr, arith}
 use Rattle.std.specs.Prelude.{◌==◌, ⊤, if◌then◌else◌, not}
 use Rattle.std.specs.List.{AllByRecursion, find, slice_get}
+use Rattle.std.specs.Option.{option_map}
 use Rattle.std.proofs.lemmas.Bool.Decides.{nat_tests}
 use Rattle.partition_table.specs.declared.app.App.{App}
 use Rattle.partition_table.specs.declared.app.App.TheVariants.{Ota, Factory, Test}
 use Rattle.partition_table.specs.declared.row.Row.{Row}
-use Rattle.partition_table.specs.declared.bad.TableBad.TheVariants.{OtadataFlags, OtadataSize, SlotGap}
+use Rattle.partition_table.specs.declared.bad.TableBad.TheVariants.{AppHigh, OtadataFlags, OtadataSize, SlotGap}
 use Rattle.partition_table.specs.Rules.{AllPairs, FitsFlash, Stands, alignment_of, is_aligned, is_within, ranges_meet}
-use Rattle.partition_table.specs.Layout.{Apart, IsPlaced, Places, is_gap, is_of, layout_of, row_for, row_with, slots_from, with_factory, with_otadata, with_slot, with_slots}
+use Rattle.partition_table.specs.First.{first_place}
+use Rattle.partition_table.specs.Layout.{Apart, IsPlaced, Places, is_gap, is_high, is_of, layout_of, row_for, row_with, slots_from, with_factory, with_otadata, with_slot, with_slots}
+use Rattle.partition_table.specs.Table.{unless}
+use Rattle.partition_table.proofs.RuleLemmas.{none_place}
 
 -- ---- what a search finds
 
@@ -112,6 +116,8 @@ pub record IsLayout (rows : List Row) (layout : Places) : Type 0 where
   pub factory : row_with 0 0 rows ≡ Some layout.factory
   pub slots : layout.slots ≡ slots_from 16 0 rows
   pub test : layout.test ≡ row_with 0 0x20 rows
+  pub no_gap : is_gap (length (slots_from 16 0 rows)) rows ≡ false
+  pub no_high : first_place is_high 0 rows ≡ None
 
 -- those of a layout that is answered
 pub layout_of-means : (rows : List Row) (layout : Places) → layout_of rows ≡ Ok layout
@@ -119,45 +125,54 @@ pub layout_of-means : (rows : List Row) (layout : Places) → layout_of rows ≡
 unfolding layout_of with_slots
 layout_of-means rows layout is = by_otadata (row_with 1 0 rows) refl is
   where
-    by_gap : (row factory : Row) → row_with 1 0 rows ≡ Some row → row.size ≡ 0x2000
+    whole : Row → Row → Places
+    whole row factory = record {
+      otadata = row.offset;
+      factory = factory;
+      slots = slots_from 16 0 rows;
+      test = row_with 0 0x20 rows;
+    }
+
+    by_high : (row factory : Row) → row_with 1 0 rows ≡ Some row → row.size ≡ 0x2000
         → row.flags % 4 ≡ 0 → row_with 0 0 rows ≡ Some factory
-        → (g : Bool) → (if g then Err (SlotGap (length (slots_from 16 0 rows)))
-        else Ok
-        (record {
-          otadata = row.offset;
-          factory = factory;
-          slots = slots_from 16 0 rows;
-          test =
-              row_with 0 0x20 rows;
-        })) ≡ Ok layout
+        → is_gap (length (slots_from 16 0 rows)) rows ≡ false
+        → (high : Option ℕ) → first_place is_high 0 rows ≡ high
+        → unless (option_map AppHigh high) (whole row factory) ≡ Ok layout
         → IsLayout rows layout
-    by_gap row factory found_row size flags found_factory true e = absurd (cc)
-    by_gap row factory found_row size flags found_factory false e =
-        let whole : ◌≡◌ {A = Places}
-        (record {
-          otadata = row.offset;
-          factory = factory;
-          slots = slots_from 16 0 rows;
-          test =
-              row_with 0 0x20 rows;
-        }) layout = cc in
+    by_high row factory found_row size flags found_factory gap (Some high) told e = absurd (cc)
+    by_high row factory found_row size flags found_factory gap None told e =
+        let same : whole row factory ≡ layout = cc in
         record {
           otadata = row;
           otadata_found = found_row;
           otadata_size = size;
           otadata_flags = flags;
-          otadata_is = ap (λ (p : Places). p.otadata) (sym whole);
-          factory = found_factory ∙ ap (λ (p : Places). Some p.factory) whole;
-          slots = ap (λ (p : Places). p.slots) (sym whole);
-          test = ap (λ (p : Places). p.test) (sym whole);
+          otadata_is = ap (λ (p : Places). p.otadata) (sym same);
+          factory = found_factory ∙ ap (λ (p : Places). Some p.factory) same;
+          slots = ap (λ (p : Places). p.slots) (sym same);
+          test = ap (λ (p : Places). p.test) (sym same);
+          no_gap = gap;
+          no_high = told;
         }
+
+    by_gap : (row factory : Row) → row_with 1 0 rows ≡ Some row → row.size ≡ 0x2000
+        → row.flags % 4 ≡ 0 → row_with 0 0 rows ≡ Some factory
+        → (g : Bool) → is_gap (length (slots_from 16 0 rows)) rows ≡ g
+        → (if g then Err (SlotGap (length (slots_from 16 0 rows)))
+        else unless (option_map AppHigh (first_place is_high 0 rows)) (whole row factory)) ≡ Ok layout
+        → IsLayout rows layout
+    by_gap row factory found_row size flags found_factory true told e = absurd (cc)
+    by_gap row factory found_row size flags found_factory false told e =
+        by_high row factory found_row size flags found_factory told (first_place is_high 0 rows)
+        refl e
 
     by_factory : (row : Row) → row_with 1 0 rows ≡ Some row → row.size ≡ 0x2000 → row.flags % 4 ≡ 0
         → (o : Option Row) → row_with 0 0 rows ≡ o → with_factory row.offset o rows ≡ Ok layout
         → IsLayout rows layout
     by_factory row found_row size flags None told e = absurd (cc)
     by_factory row found_row size flags (Some factory) told e =
-        by_gap row factory found_row size flags told (is_gap (length (slots_from 16 0 rows)) rows) e
+        by_gap row factory found_row size flags told (is_gap (length (slots_from 16 0 rows)) rows)
+        refl e
 
     by_tests : (row : Row) → row_with 1 0 rows ≡ Some row → (a b : Bool) → (row.size == 0x2000) ≡ a
         → (row.flags % 4 == 0) ≡ b
@@ -235,6 +250,11 @@ unfolding is_within
 within flash row is = record
     { behind = grind (arith, nat_tests); inside = grind (arith, nat_tests) }
 
+-- an application that is not high ends in the first 16 MiB
+ends_low : (row : Row) → row.kind ≡ 0 → is_high row ≡ false → row.offset + row.size ≤ 0x1000000
+unfolding is_high
+ends_low row kind low = let here = rw kind at low in grind (arith, nat_tests, here)
+
 -- the parts lie in order
 pub placed : (flash : ℕ) (rows : List Row) (layout : Places) → FitsFlash flash rows
     → IsLayout rows layout → IsPlaced layout flash
@@ -254,6 +274,10 @@ placed flash rows layout fits is =
       stands = λ app row e.
           (found (Stands flash) (is_of 0 (subtype_for app)) rows row fits.each
           (app_row rows layout is app row e).0).has;
+      low = λ app row e.
+          let one = found (λ r. is_high r ≡ false) (is_of 0 (subtype_for app)) rows row
+          (none_place is_high 0 rows is.no_high) (app_row rows layout is app row e).0 in
+          ends_low row (is_of-means 0 (subtype_for app) row one.passes).kind_is one.has;
       app_apart = λ app row e.
           rw (at, sym size) (apart row data_row
           (two (λ a b. ranges_meet a b ≡ false) meet_flip (is_of 0 (subtype_for app)) (is_of 1 0)

@@ -1,13 +1,15 @@
 -- Where a bootloader finds the parts of a flash.
 use Rattle.std.specs.Prelude.{◌≡◌, ◌≢◌, ◌≤◌, ℕ, zero, suc, ◌+◌, ◌%◌, Bool, ◌&&◌, ◌||◌, not, ◌==◌, nat_lt, List, [], ◌∷◌, length, take, drop, Option, Some, None, Result, Ok, Err, if◌then◌else◌, slice_get, ◌⊎◌}
 use Rattle.std.specs.List.{find, list_any}
+use Rattle.std.specs.Option.{option_map}
 use Rattle.partition_table.specs.declared.app.App.{App}
 use Rattle.partition_table.specs.declared.app.App.TheVariants.{Ota, Factory, Test}
 use Rattle.partition_table.specs.declared.row.Row.{Row}
 use Rattle.partition_table.specs.declared.bad.TableBad.{TableBad}
-use Rattle.partition_table.specs.declared.bad.TableBad.TheVariants.{NoOtadata, OtadataSize, OtadataFlags, NoFactory, SlotGap}
+use Rattle.partition_table.specs.declared.bad.TableBad.TheVariants.{NoOtadata, OtadataSize, OtadataFlags, NoFactory, SlotGap, AppHigh}
+use Rattle.partition_table.specs.First.{first_place}
 use Rattle.partition_table.specs.Rules.{Stands}
-use Rattle.partition_table.specs.Table.{table_of}
+use Rattle.partition_table.specs.Table.{table_of, unless}
 
 -- the places of the OTA data, the factory application, the slots in order, and the test application
 pub record Places : Type 0 where
@@ -42,11 +44,16 @@ is_behind k row = (row.kind == 0) && nat_lt (0x10 + k) row.subtype && nat_lt row
 unfoldable pub is_gap : ℕ → List Row → Bool
 is_gap k rows = (k == 0) || list_any (is_behind k) rows
 
--- the layout with these slots, or the least number of a slot that is missing
+-- whether a row is an application that ends above 16 MiB, where the cache can't map it
+unfoldable pub is_high : Row → Bool
+is_high row = (row.kind == 0) && nat_lt 0x1000000 (row.offset + row.size)
+
+-- the layout with these slots, or the least number of a slot that is missing, or else the first
+-- application that ends above 16 MiB
 unfoldable pub with_slots : ℕ → Row → List Row → List Row → Result Places TableBad
 with_slots otadata factory slots rows =
     if is_gap (length slots) rows then Err (SlotGap (length slots))
-    else Ok (record {
+    else unless (option_map AppHigh (first_place is_high 0 rows)) (record {
       otadata = otadata;
       factory = factory;
       slots = slots;
@@ -90,12 +97,14 @@ abbrev pub Apart : ℕ → ℕ → ℕ → ℕ → Type 0
 Apart a n b m = (a + n ≤ b) ⊎ (b + m ≤ a)
 
 -- the parts of a layout lie in order in a flash of this size: each behind the table and inside the
--- flash, at a sector or at 64 KiB, and no two of them meet
+-- flash, at a sector or at 64 KiB, no two of them meet, and applications end in the first 16 MiB
 pub record IsPlaced (layout : Places) (flash : ℕ) : Type 0 where
   pub aligned : layout.otadata % 0x1000 ≡ 0
   pub behind : 0x9000 ≤ layout.otadata
   pub inside : layout.otadata + 0x2000 ≤ flash
   pub stands : (app : App) (row : Row) → row_for layout app ≡ Some row → Stands flash row
+  pub low : (app : App) (row : Row) → row_for layout app ≡ Some row
+      → row.offset + row.size ≤ 0x1000000
   pub app_apart : (app : App) (row : Row) → row_for layout app ≡ Some row
       → Apart row.offset row.size layout.otadata 0x2000
   pub apps_apart : (a b : App) (r s : Row) → row_for layout a ≡ Some r → row_for layout b ≡ Some s

@@ -27,4 +27,6 @@ pub enum TableBad {
     NoFactory,
     /// The first update slot is missing, or this one while there is a greater one.
     SlotGap { slot: u8 },
+    /// An application ends above 16 MiB, where the cache can't map it.
+    AppHigh { row: u8 },
 }

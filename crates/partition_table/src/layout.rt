@@ -2,7 +2,8 @@
 
 ghost use Rattle.std.specs.Prelude.{◌≡◌, ◌≤◌, ◌<◌, ◌^◌, ◌+◌, IsSome, Some, IfOk, IfSome, length, option_copied};
 ghost use Rattle.std.specs.List.{list_any};
-ghost use Rattle.partition_table.specs.Layout.{IsPlaced, is_behind, is_gap, is_of, layout_in, layout_of, row_for, row_with, slots_from, with_factory, with_slots};
+ghost use Rattle.partition_table.specs.First.{first_place};
+ghost use Rattle.partition_table.specs.Layout.{IsPlaced, is_behind, is_gap, is_high, is_of, layout_in, layout_of, row_for, row_with, slots_from, with_factory, with_slots};
 
 use crate::app::App;
 use crate::bad::TableBad;
@@ -82,6 +83,7 @@ pub fn layout_in(flash: &[u8]) -> Result<Layout, TableBad>
 /// Where a bootloader finds its parts by the rows of a table, or the first reason why it can't.
 #[tactic(auto, unfolding(crate::specs::Layout::layout_of))]
 pub(crate) fn layout_of(rows: &[Row]) -> Result<Layout, TableBad>
+    requires few { length rows.now ≤ 94 }
     ensures exact { result ≡ layout_of rows.now }
 {
     let Some(otadata) = row_with(rows, 1, 0) else {
@@ -101,7 +103,8 @@ pub(crate) fn layout_of(rows: &[Row]) -> Result<Layout, TableBad>
     with_slots(otadata.offset, factory, slots_of(rows, 16), rows)
 }
 
-/// The layout with these slots, or the least number of a slot that is missing.
+/// The layout with these slots, or the least number of a slot that is missing, or else the first
+/// application that ends above 16 MiB.
 #[tactic(auto, unfolding(crate::specs::Layout::with_slots, crate::specs::Layout::is_gap))]
 fn with_slots(
     otadata: u32,
@@ -109,11 +112,15 @@ fn with_slots(
     slots: ArrayVec<Row, 16>,
     rows: &[Row],
 ) -> Result<Layout, TableBad>
+    requires few { length rows.now ≤ 94 }
     ensures exact { result ≡ with_slots otadata factory slots.items rows.now }
 {
     let count = slots.len() as u8;
     if is_gap(rows, count) {
         return Err(TableBad::SlotGap { slot: count });
+    }
+    if let Some(row) = first_high(rows) {
+        return Err(TableBad::AppHigh { row });
     }
     Ok(Layout {
         otadata,
@@ -187,4 +194,25 @@ fn is_behind(row: &Row, slot: u8) -> bool
     ensures exact { result ≡ is_behind slot row.now }
 {
     row.kind == 0 && 0x10 + slot < row.subtype && row.subtype < 0x20
+}
+
+/// The first row that is an application and ends above 16 MiB.
+fn first_high(rows: &[Row]) -> Option<u8>
+    requires few { length rows.now ≤ 94 }
+    ensures exact { result ≡ first_place is_high 0 rows.now }
+{
+    for i in 0..rows.len() {
+        if is_high(&rows[i]) {
+            return Some(i as u8);
+        }
+    }
+    None
+}
+
+/// Whether a row is an application that ends above 16 MiB, where the cache can't map it.
+#[tactic(auto, unfolding(crate::specs::Layout::is_high))]
+fn is_high(row: &Row) -> bool
+    ensures exact { result ≡ is_high row.now }
+{
+    row.kind == 0 && u64::from(row.offset) + u64::from(row.size) > 0x1000000
 }

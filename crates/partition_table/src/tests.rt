@@ -326,6 +326,52 @@ fn a_layout_is_refused_by_the_first_part_that_it_lacks(rt: HostRuntime) {
 }
 
 #[test]
+fn an_application_ends_in_the_first_16_mebibytes(rt: HostRuntime) {
+    let data = row(1, 0, 0x9000, 0x2000);
+    let factory = row(0, 0, 0x10000, 0x10000);
+    let zero = row(0, 0x10, 0x20000, 0x10000);
+    let below = row(0, 0x11, 0xFF0000, 0x10000);
+    let across = row(0, 0x11, 0xFF0000, 0x11000);
+    let behind = row(0, 0x11, 0x1000000, 0x10000);
+    let other = row(0, 0x40, 0x1010000, 0x1000);
+    let gap = row(0, 0x12, 0x1020000, 0x10000);
+    let storage = row(1, 0x82, 0x1000000, 0x1000000);
+    for (last, want, why) in [
+        (below, None, "it ends there"),
+        (across, Some(TableBad::AppHigh { row: 3 }), "a sector above"),
+        (
+            behind,
+            Some(TableBad::AppHigh { row: 3 }),
+            "all of it above",
+        ),
+        (
+            other,
+            Some(TableBad::AppHigh { row: 3 }),
+            "an application of no slot",
+        ),
+        (
+            gap,
+            Some(TableBad::SlotGap { slot: 1 }),
+            "the gap comes first",
+        ),
+        (storage, None, "data may stand there"),
+    ] {
+        let Ok(table) = Table::of_rows(&[data, factory, zero, last], 0x2000000) else {
+            panic!(rt; "the rows are refused: {why}");
+        };
+        assert_eq!(rt; table.layout().err(), want, "{why}");
+    }
+    let Ok(two) = Table::of_rows(&[data, factory, other, zero, behind], 0x2000000) else {
+        panic!(rt; "two high rows");
+    };
+    assert_eq!(rt;
+        two.layout(),
+        Err(TableBad::AppHigh { row: 2 }),
+        "the first one"
+    );
+}
+
+#[test]
 fn a_layout_has_its_slots_in_order(rt: HostRuntime) {
     let test = row(0, 0x20, 0x310000, 0x10000);
     let [nvs, otadata, phy, factory, first, second] = six();

@@ -1,15 +1,14 @@
 -- What a table says of the layout by it, and when an update opens on its flash.
-use Rattle.std.proofs.Common.{◌≡◌, ◌≤◌, ◌<◌, ℕ, zero, suc, ◌+◌, ◌%◌, Bool, true, false, List, length, drop, take, Option, Some, None, Result, Ok, Err, refl, sym, ap, subst, arith}
-use Rattle.std.specs.Prelude.{All, ◌==◌, if◌then◌else◌, nat_lt}
+use Rattle.std.proofs.Common.{◌≡◌, ◌≤◌, ◌<◌, ℕ, zero, suc, ◌+◌, Bool, true, false, List, length, drop, take, Option, Some, None, Result, Ok, Err, refl, sym, ap, subst, arith}
+use Rattle.std.specs.Prelude.{All, if◌then◌else◌, nat_lt}
 use Rattle.std.proofs.lemmas.Bool.Decides.{nat_tests}
 use Rattle.std.proofs.lemmas.List.Elements.{All-replicate}
 use Rattle.std.proofs.lemmas.Option.{slice_get_within}
 use Rattle.partition_table.specs.declared.row.Row.{Row}
 use Rattle.partition_table.specs.declared.bad.TableBad.{TableBad}
-use Rattle.partition_table.specs.declared.bad.TableBad.TheVariants.{SlotGap}
 use Rattle.partition_table.specs.Rules.{FitsFlash}
 use Rattle.partition_table.specs.Table.{end_bad, first_rows, rows_in, table_bad, table_of, unless}
-use Rattle.partition_table.specs.Layout.{IsPlaced, Places, is_gap, layout_by, layout_in, layout_of, row_with, slots_from, with_slot, with_slots}
+use Rattle.partition_table.specs.Layout.{IsPlaced, Places, is_gap, layout_by, layout_in, layout_of, row_with, slots_from, with_slot}
 use Rattle.partition_table.proofs.LayoutLemmas.{layout_of-means, placed}
 use Rattle.partition_table.proofs.RuleLemmas.{fits, none_second}
 use Rattle.otadata.specs.declared.entry.Entry.{Entry}
@@ -103,21 +102,11 @@ gap_some (suc n) rows is = omega arith
 -- and the first one is wanted
 pub layout_some : (rows : List Row) (layout : Places) → layout_of rows ≡ Ok layout
     → 0 < length layout.slots
-unfolding layout_of with_slots
 layout_some rows layout laid =
     let is = layout_of-means rows layout laid in
-    let flags : (is.otadata.flags % 4 == 0) ≡ true =
-    let even = is.otadata_flags in grind (arith, nat_tests, even) in
     let many = ap length is.slots in
-    let some = by (is_gap (length (slots_from 16 0 rows)) rows) refl _
-    (rw (is.otadata_found, is.otadata_size, flags, is.factory) at laid) in
+    let some = gap_some (length (slots_from 16 0 rows)) rows is.no_gap in
     omega (arith, many, some)
-  where
-    by : (g : Bool) → is_gap (length (slots_from 16 0 rows)) rows ≡ g → (whole : Places)
-        → (if g then Err (SlotGap (length (slots_from 16 0 rows))) else Ok whole) ≡ Ok layout
-        → 0 < length (slots_from 16 0 rows)
-    by true told whole e = absurd cc
-    by false told whole e = gap_some (length (slots_from 16 0 rows)) rows told
 
 -- ---- an update opens
 
