@@ -1,7 +1,9 @@
--- In reading order: steps on a device, the steps of a rewrite, the entries of a device, what
--- verifying tells, what a loss of power leaves, what a boot answers, what is left of a pair.
+-- In reading order: steps on a device, the steps of a rewrite and of a boot, the entries of a
+-- device, what verifying tells, what a loss of power leaves, what a boot answers, what is left of a
+-- pair.
 pub mod Made
 pub mod Rewriting
+pub mod BootSteps
 pub mod Read
 pub mod Verified
 pub mod Crashed

@@ -25,3 +25,6 @@ pub mod LegCountLemmas
 pub mod TakenLegs
 pub mod FewStepsLemmas
 pub mod OpeningLemmas
+pub mod TakenTrials
+pub mod BegunLemmas
+pub mod BrokenLemmas

@@ -29,7 +29,8 @@ use Rattle.power_cut.specs.Device.{BrokeAt, HasEnd, IsUnbroken, IsWholeEnd, MayE
 use Rattle.power_cut.specs.Kept.{IsConfirmLeg, IsSessionLeg}
 use Rattle.power_cut.specs.Leg.{IsLeg}
 use Rattle.power_cut.specs.Update.{Opens, image_of, session_end, slot_size}
-use Rattle.power_cut.specs.Whole.{IsBootLeg, boot_steps, end_by}
+use Rattle.power_cut.specs.Whole.{IsBootLeg, end_by}
+use Rattle.boot_run.specs.BootSteps.{boot_steps}
 use Rattle.duo_run.specs.Legs.{ConfirmShare, SessionShare}
 use Rattle.duo_run.specs.Pages.{probe_in}
 use Rattle.duo_run.specs.Worker.{WorkerShare, worker_steps}

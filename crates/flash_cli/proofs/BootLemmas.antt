@@ -11,7 +11,8 @@ use Rattle.boot_run.specs.Verified.{Starts}
 use Rattle.flash_text.specs.declared.refusal.Refusal.{Refusal}
 use Rattle.flash_text.specs.declared.refusal.Refusal.TheVariants.{NoApplication}
 use Rattle.flash_cli.specs.Choice.{choice_by, choice_in, choice_with}
-use Rattle.flash_cli.specs.Boot.{BootEnds, IsStarted, boot_steps, started_by, started_in, started_with}
+use Rattle.boot_run.specs.BootSteps.{boot_steps}
+use Rattle.flash_cli.specs.Boot.{BootEnds, IsStarted, started_by, started_in, started_with}
 
 -- the two bytes of a device that tells them are the same
 same_bytes : (told : Option (List ℕ)) (one two : List ℕ) → told ≡ Some one → told ≡ Some two
@@ -39,9 +40,9 @@ is_started : (flash left : List ℕ) (layout : Places) (now : Option (List ℕ))
     → started_in flash layout ≡ Ok (started_with booted.app booted.info.length booted.steps left)
 unfolding started_in
 is_started flash left layout now booted started now_is =
-    let same : after_steps flash (boot_steps flash layout) ≡ left =
-    same_bytes now (after_steps flash (boot_steps flash layout)) left started.left now_is in
-    ap (started_by flash (boot_steps flash layout)) started.starts.is
+    let same : after_steps flash (boot_steps layout flash) ≡ left =
+    same_bytes now (after_steps flash (boot_steps layout flash)) left started.left now_is in
+    ap (started_by flash (boot_steps layout flash)) started.starts.is
     ∙ (λ i. Ok (started_with booted.app ((sym started.starts.told.long) i)
     ((sym started.counted) i) (same i)))
 
@@ -61,7 +62,7 @@ is_refused : (flash : List ℕ) (layout : Places) (why : Refusal) → boots_in h
     → why ≡ NoApplication → started_in flash layout ≡ Err why
 unfolding started_in
 is_refused flash layout why none is =
-    ap (started_by flash (boot_steps flash layout)) none ∙ ap Err (sym is)
+    ap (started_by flash (boot_steps layout flash)) none ∙ ap Err (sym is)
 
 pub boot_refused : (flash : List ℕ) (layout : Places) (told now : Option (List ℕ)) (why : Refusal)
     → told ≡ Some flash → IfSome told (λ bytes. BootEnds layout bytes now (Err why))

@@ -23,10 +23,11 @@ use Rattle.power_cut.specs.Leg.{AnyGrants, LegStands, any_after, any_part}
 use Rattle.power_cut.specs.Whole.{BehindBoot, BehindSession}
 use Rattle.flash_text.specs.WorkerText.{AreInside, IsInside}
 use Rattle.flash_text.specs.UpdateText.{IsReadable}
-use Rattle.flash_cli.specs.declared.update_words.Options.{Options}
-use Rattle.flash_cli.specs.Opening.{Opening}
-use Rattle.flash_cli.specs.Legs.{Confirms}
-use Rattle.flash_cli.specs.Updating.{IsUpdate}
+use Rattle.flash_cli.specs.Served.{AreReadable}
+use Rattle.update_run.specs.declared.options.Options.{Options}
+use Rattle.update_run.specs.Opening.{Opening}
+use Rattle.update_run.specs.Legs.{Confirms}
+use Rattle.update_run.specs.Updating.{IsUpdate}
 
 -- what is inside stays inside as bytes are added
 inside_more : (n m : ℕ) (act : Act) → n ≤ m → IsInside n act → IsInside m act
@@ -125,13 +126,20 @@ behind_session o aim driver true upto session dev t ends =
     behind_boot o aim driver _ _ ends.new t ends.behind
 
 -- both journals of an update
-pub session_readable : (options : Options) (o : Opening) (t : Trial) → IsUpdate options o t
+session_readable : (options : Options) (o : Opening) (t : Trial) → IsUpdate options o t
     → IsReadable (Some t.session)
 session_readable options o t update =
     let leg = update.trial.written.leg.leg in
     rw update.trial.journal (leg_readable _ leg.base leg.left leg.right leg.stands)
 
-pub confirm_readable : (options : Options) (o : Opening) (t : Trial) → IsUpdate options o t
+confirm_readable : (options : Options) (o : Opening) (t : Trial) → IsUpdate options o t
     → IsReadable t.confirm
 confirm_readable options o t update =
     behind_session o update.aim options.driver _ options.upto _ _ t update.trial.behind
+
+pub trial_readable : (options : Options) (o : Opening) (t : Trial) → IsUpdate options o t
+    → AreReadable t
+trial_readable options o t update = record {
+  session = session_readable options o t update;
+  confirm = confirm_readable options o t update;
+}

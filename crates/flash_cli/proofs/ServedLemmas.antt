@@ -8,6 +8,12 @@ use Rattle.power_cut.specs.declared.legs.LegEnd.TheVariants as ends
 use Rattle.power_cut.specs.declared.outcome.Trial.{Trial}
 use Rattle.flash_text.specs.declared.refusal.Refusal.{Refusal}
 use Rattle.flash_text.specs.declared.refusal.Refusal.TheVariants.{Absent as AbsentFile}
+use Rattle.update_run.specs.declared.options.Options.{Options}
+use Rattle.update_run.specs.declared.refusal.OpeningNo.{OpeningNo}
+use Rattle.update_run.specs.declared.refusal.OpeningNo.TheVariants as none
+use Rattle.update_run.specs.Opening.{OpensUpdate}
+use Rattle.update_run.specs.Updating.{last_end}
+use Rattle.flash_cli.specs.Unbegun.{error_of, or_refusal}
 use Rattle.flash_cli.specs.declared.error.CommandError.{CommandError}
 use Rattle.flash_cli.specs.declared.error.CommandError.TheVariants.{Absent, Refused as RefusedBy, Failed}
 use Rattle.flash_cli.specs.declared.error.Failure.TheVariants.{Store, Memory as OutOfMemory}
@@ -15,7 +21,7 @@ use Rattle.flash_cli.specs.declared.status.Status.{Status}
 use Rattle.flash_cli.specs.Answer.{TellsPuts, refused_outcome}
 use Rattle.flash_cli.specs.UpdateWords.{Update}
 use Rattle.flash_cli.specs.Reading.{TellsAnswer}
-use Rattle.flash_cli.specs.Updating.{IsMade, IsUpdated, IsUpdateEnd, UpdateEnds, UpdateOf, UpdateEndsWhole, last_end, outcome_of_trial, status_by}
+use Rattle.flash_cli.specs.Updating.{IsUpdateMade, IsUpdated, IsUpdateEnd, UpdateEnds, UpdateOf, UpdateEndsWhole, outcome_of_trial, status_by}
 use Rattle.flash_cli.specs.Served.{EndsBy, IsRefusal, Refuses}
 use Rattle.flash_cli.proofs.PutLemmas.{puts_none}
 
@@ -36,7 +42,7 @@ update_came told u first now flash image text (Err (Failed Store)) a b c is = ab
 update_came told u first now flash image text (Err (Failed OutOfMemory)) a b c is = tt
 
 -- an update that was made comes to the outcome of its trial
-made : (told : Option Files) (u : Update) (t : Trial) → IsMade told u t
+made : (told : Option Files) (u : Update) (t : Trial) → IsUpdateMade told u t
     → IsUpdated told u (outcome_of_trial u t) (Some t)
 made told u t is = record { result = Ok (Ok is.o); comes = is.comes; is = (is.is, refl) }
 
@@ -60,7 +66,7 @@ whole_by told u t put before after (ends.Bad why) is = is
 
 -- an update whose trial was told ended so
 told_ends : (told : Option Files) (u : Update) (t : Trial) (status : Status)
-    (put : Option Files) (before after : Option (List ℕ)) → IsMade told u t
+    (put : Option Files) (before after : Option (List ℕ)) → IsUpdateMade told u t
     → EndsBy u t status told put before after
     → UpdateEnds told u status (Some t) put before after
 told_ends told u t status put before after is (inl (inl fault, unput, silent)) =
@@ -150,7 +156,7 @@ unmade_ends told u first now (Failed OutOfMemory) status before after counted (n
 -- a call with an update ended so: it was made, or not
 pub update_told : (u : Update) (told : Option Files) (t : Trial) (status : Status)
     (trial : Option Trial) (read put : Option Files) (before after : Option (List ℕ))
-    → trial ≡ Some t → IsMade told u t → read ≡ told → EndsBy u t status read put before after
+    → trial ≡ Some t → IsUpdateMade told u t → read ≡ told → EndsBy u t status read put before after
     → UpdateEnds told u status trial put before after
 update_told u told t status trial read put before after some made same ends =
     rw some (told_ends told u t status put before after made (rw same at ends))
@@ -166,3 +172,11 @@ update_unmade u told first now error status trial read before after none comes s
 pub asked_so : {A : Type 0} (asked : Option A) (u : A) (P : A → Type 0) → Some u ≡ asked → P u
     → IfSome asked P
 asked_so asked u P is so = rw (sym is) so
+
+-- ---- what an update began with
+
+pub update_unopened : (flash image text : List ℕ) (options : Options) (reason : OpeningNo)
+    → OpensUpdate flash image text (Err reason)
+    → UpdateOf flash image text options (Err (error_of reason))
+update_unopened flash image text options (none.Refused why) fails = ap or_refusal fails
+update_unopened flash image text options none.Memory fails = tt

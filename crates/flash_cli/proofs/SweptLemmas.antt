@@ -8,6 +8,12 @@ use Rattle.power_cut.specs.declared.swept.Sweep.{Sweep as Swept}
 use Rattle.flash_text.specs.declared.refusal.Refusal.{Refusal}
 use Rattle.flash_text.specs.declared.refusal.Refusal.TheVariants.{Absent as AbsentFile}
 use Rattle.flash_text.specs.SweepText.{sweep_text}
+use Rattle.power_cut.specs.declared.legs.LegEnd.{LegEnd}
+use Rattle.update_run.specs.declared.refusal.OpeningNo.{OpeningNo}
+use Rattle.update_run.specs.declared.refusal.OpeningNo.TheVariants as none
+use Rattle.update_run.specs.Opening.{Opening}
+use Rattle.flash_cli.specs.Unbegun.{error_of, sweep_opening_or_refusal}
+use Rattle.flash_cli.specs.Updating.{status_by}
 use Rattle.flash_cli.specs.declared.command.Kind.{Kind}
 use Rattle.flash_cli.specs.declared.command.Kind.TheVariants as kinds
 use Rattle.flash_cli.specs.declared.error.CommandError.{CommandError}
@@ -21,7 +27,8 @@ use Rattle.flash_cli.specs.Reading.{TellsAnswer}
 use Rattle.flash_cli.specs.Served.{IsPushed, IsRefusal, IsSilent, Refuses}
 use Rattle.flash_cli.specs.Status.{IsDevices}
 use Rattle.flash_cli.specs.SweepWords.{Sweep, asked_sweep, sweep_made, sweep_of}
-use Rattle.flash_cli.specs.Sweeping.{IsSweepEnd, IsSweepOutcome, OpensSweep, SweepComes, SweepEnds, SweepOf, SweepTells, sweep_opening_of, swept_outcome}
+use Rattle.flash_cli.specs.Sweeping.{IsSweepEnd, IsSweepOutcome, SweepComes, SweepEnds, SweepOf, SweepTells, swept_outcome}
+use Rattle.update_run.specs.Sweeping.{IsSwept, IsUnswept, OpensSweep}
 use Rattle.flash_cli.specs.UpdateWords.{Update, update_made, update_of}
 
 -- ---- words are not both an update and a sweep
@@ -62,16 +69,25 @@ pub no_sweep : (words : List (String Global)) (u : Update) (P : Sweep → Type 0
     → Some u ≡ update_of (words_of words) → IfSome (asked_sweep words) P
 no_sweep words u P is = rw (words_once (words_of words) u (sym is)) tt
 
--- ---- a sweep that may not begin
+-- ---- what a sweep began with, and what it comes to
 
--- it comes to that
-pub unopened : (tear : ℕ) (flash image text : List ℕ) (error : CommandError)
-    → OpensSweep flash image text (Err error)
-    → SweepOf tear (sweep_opening_of flash image text) (Err error)
-unopened tear flash image text (RefusedBy why) fails = rw fails refl
-unopened tear flash image text (Absent file name) fails = fails
-unopened tear flash image text (Failed Store) fails = fails
-unopened tear flash image text (Failed OutOfMemory) fails = fails
+-- it may not begin
+pub unopened : (tear : ℕ) (flash image text : List ℕ) (reason : OpeningNo)
+    → OpensSweep flash image text (Err reason)
+    → SweepOf tear (sweep_opening_or_refusal flash image text) (Err (error_of reason))
+unopened tear flash image text (none.Refused why) fails = rw fails refl
+unopened tear flash image text none.Memory fails = tt
+
+pub swept_comes : (tear : ℕ) (begins : Result Opening Refusal) (o : Opening) (s : Swept)
+    → begins ≡ Ok o → IsSwept tear o s → SweepComes tear (Ok begins) (swept_outcome s)
+swept_comes tear begins o s begun is =
+    rw begun (inl (record { swept = s; is = is; outcome_is = refl }))
+
+pub unswept_comes : (tear : ℕ) (begins : Result Opening Refusal) (o : Opening) (end : LegEnd)
+    (why : Refusal) → begins ≡ Ok o → IsUnswept tear o end → status_by end ≡ Refused why
+    → SweepComes tear (Ok begins) (refused_outcome (codes "") why)
+unswept_comes tear begins o end why begun is status =
+    rw begun (inr (record { end = end; is = is; why = why; why_is = status; outcome_is = refl }))
 
 -- ---- what was read
 
@@ -79,21 +95,21 @@ unopened tear flash image text (Failed OutOfMemory) fails = fails
 pub sweep_came : (told : Option Files) (s : Sweep) (first now : ℕ) (flash image text : List ℕ)
     (result : Result Swept CommandError) → TellsAnswer told s.flash (Some flash)
     → TellsAnswer told s.image (Some image) → TellsAnswer told s.script (Some text)
-    → SweepOf s.tear (sweep_opening_of flash image text) result
+    → SweepOf s.tear (sweep_opening_or_refusal flash image text) result
     → IsSweepEnd told s first now result
 sweep_came told s first now flash image text result a b c is = by result is
   where
     comes : (outcome : Outcome)
-        → SweepComes s.tear (Ok (sweep_opening_of flash image text)) outcome
+        → SweepComes s.tear (Ok (sweep_opening_or_refusal flash image text)) outcome
         → IsSweepOutcome told s outcome
     comes outcome so = record {
-      result = Ok (sweep_opening_of flash image text);
+      result = Ok (sweep_opening_or_refusal flash image text);
       comes = (Some flash, (a, (Some image, (b, (Some text, (c, refl))))));
       is = so;
     }
 
     by : (result : Result Swept CommandError)
-        → SweepOf s.tear (sweep_opening_of flash image text) result
+        → SweepOf s.tear (sweep_opening_or_refusal flash image text) result
         → IsSweepEnd told s first now result
     by (Ok swept) so = comes (swept_outcome swept) so
     by (Err (RefusedBy why)) so = comes (refused_outcome (codes "") why) so

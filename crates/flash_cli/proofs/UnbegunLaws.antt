@@ -14,7 +14,7 @@ use Rattle.flash_cli.specs.declared.status.Status.{Status}
 use Rattle.flash_cli.specs.declared.status.Status.TheVariants.{Done, Usage, Refused, StoreFault, DeviceFault, PowerCut, Memory, SinkFault}
 use Rattle.flash_cli.specs.Answer.{Outcome, TellsPuts, refused_outcome}
 use Rattle.flash_cli.specs.Installs.{FaultlessSweepIsMade, IsRefusedFor, IsSweepMade, RefusedSweepIsRefused, RefusedUpdateIsRefused, RefusesFor}
-use Rattle.flash_cli.specs.Opening.{AimsIn, Opening}
+use Rattle.update_run.specs.Opening.{AimsIn, Opening}
 use Rattle.flash_cli.specs.Reading.{Absence, read_in}
 use Rattle.flash_cli.specs.SweepWords.{Sweep}
 use Rattle.flash_cli.specs.Sweeping.{IsSweepOutcome, SweepComes, SweepEnds, SweepEndsWhole, sweep_reading, swept_outcome}

@@ -4,12 +4,10 @@ use Rattle.nor_device.specs.declared.step.Step.{Step}
 use Rattle.nor_device.specs.Flash.{after_steps}
 use Rattle.partition_table.specs.declared.app.App.{App}
 use Rattle.partition_table.specs.Layout.{Places}
-use Rattle.boot_select.specs.Boots.{entries_in}
 use Rattle.image_verify.specs.Held.{held}
-use Rattle.rollback.specs.Boot.{boot_writes}
 use Rattle.rollback.specs.Boots.{boots_in}
 use Rattle.boot_run.specs.declared.booted.Booted.{Booted}
-use Rattle.boot_run.specs.Rewriting.{rewrites}
+use Rattle.boot_run.specs.BootSteps.{boot_steps}
 use Rattle.boot_run.specs.Verified.{Starts}
 use Rattle.flash_text.specs.declared.refusal.Refusal.{Refusal}
 use Rattle.flash_text.specs.declared.refusal.Refusal.TheVariants.{NoApplication}
@@ -17,10 +15,6 @@ use Rattle.flash_text.specs.BootText.{booted_lines}
 use Rattle.flash_cli.specs.declared.boot.Started.{Started as CodeStarted}
 use Rattle.flash_cli.specs.Answer.{Answer}
 use Rattle.flash_cli.specs.Laid.{laid}
-
--- the steps that a boot of a flash makes
-abbrev pub boot_steps : List ℕ → Places → List Step
-boot_steps flash layout = rewrites layout.otadata (boot_writes (entries_in layout flash))
 
 -- a flash that was booted: what was started, how long its image is, how many steps were made
 -- before, and the flash that they leave
@@ -51,7 +45,7 @@ started_by flash steps (Some booted) =
 
 -- what a boot makes of a flash with this layout
 unfoldable pub started_in : List ℕ → Places → Result Started Refusal
-started_in flash layout = started_by flash (boot_steps flash layout) (boots_in held layout flash)
+started_in flash layout = started_by flash (boot_steps layout flash) (boots_in held layout flash)
 
 -- what a boot makes of a flash by its layout, where it has one
 abbrev pub started_from : List ℕ → Result Places Refusal → Result Started Refusal
@@ -75,8 +69,8 @@ boot_answer flash out = answer_of_started out (started_from flash (laid flash))
 pub record IsStarted (layout : Places) (flash : List ℕ) (now : Option (List ℕ)) (booted : Booted)
     : Type 0 where
   pub starts : Starts (boots_in held layout flash) booted.app booted.info
-  pub counted : booted.steps ≡ length (boot_steps flash layout)
-  pub left : now ≡ Some (after_steps flash (boot_steps flash layout))
+  pub counted : booted.steps ≡ length (boot_steps layout flash)
+  pub left : now ≡ Some (after_steps flash (boot_steps layout flash))
 
 -- the boot of a device with this flash ended so: by a start, or since nothing boots
 abbrev pub BootEnds : Places → List ℕ → Option (List ℕ) → Result Booted Refusal → Type 0

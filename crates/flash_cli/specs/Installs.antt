@@ -20,13 +20,15 @@ use Rattle.flash_text.specs.SweepText.{sweep_text}
 use Rattle.flash_text.specs.Text.{refusal_line}
 use Rattle.flash_cli.specs.declared.status.Status.{Status}
 use Rattle.flash_cli.specs.declared.status.Status.TheVariants.{Done, Refused, StoreFault, Memory, SinkFault}
-use Rattle.flash_cli.specs.declared.update_words.Options.{Options}
-use Rattle.flash_cli.specs.Opening.{AimsIn, Opening}
+use Rattle.update_run.specs.declared.options.Options.{Options}
+use Rattle.update_run.specs.Opening.{AimsIn, Opening}
 use Rattle.flash_cli.specs.Reading.{Absence, read_in}
 use Rattle.flash_cli.specs.SweepWords.{Sweep}
-use Rattle.flash_cli.specs.Sweeping.{IsSwept, SweepEnds, sweep_reading}
+use Rattle.update_run.specs.Sweeping.{IsSwept}
+use Rattle.flash_cli.specs.Sweeping.{SweepEnds, sweep_reading}
 use Rattle.flash_cli.specs.UpdateWords.{Update}
-use Rattle.flash_cli.specs.Updating.{UpdateEnds, count_of, update_reading}
+use Rattle.flash_cli.specs.Updating.{UpdateEnds, update_reading}
+use Rattle.update_run.specs.Updating.{count_of}
 
 -- the image is whole within the slot that is aimed at, and none of the steps of the update was chosen
 -- to end badly

@@ -13,7 +13,8 @@ use Rattle.flash_cli.specs.declared.error.Failure.TheVariants.{Store, Memory as 
 use Rattle.flash_cli.specs.declared.status.Status.{Status}
 use Rattle.flash_cli.specs.declared.status.Status.TheVariants.{Done, Usage, Refused, StoreFault, DeviceFault, PowerCut, Memory, SinkFault}
 use Rattle.flash_cli.specs.UpdateWords.{Update}
-use Rattle.flash_cli.specs.Updating.{last_end, status_by}
+use Rattle.update_run.specs.Updating.{last_end}
+use Rattle.flash_cli.specs.Updating.{status_by}
 
 -- the bytes of each fetch of both journals are in them
 pub record AreReadable (t : Trial) : Type 0 where

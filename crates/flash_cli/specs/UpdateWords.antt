@@ -6,7 +6,7 @@ use Rattle.power_cut.specs.declared.legs.Upto.{Upto}
 use Rattle.power_cut.specs.declared.legs.Upto.TheVariants.{Session, Boot as FirstBoot, Confirm as Confirmation}
 use Rattle.flash_cli.specs.declared.command.Kind.{Kind}
 use Rattle.flash_cli.specs.declared.command.Kind.TheVariants.{Update as UpdateKind}
-use Rattle.flash_cli.specs.declared.update_words.Options.{Options}
+use Rattle.update_run.specs.declared.options.Options.{Options}
 use Rattle.flash_cli.specs.declared.update_words.Update.{Update as Parsed}
 use Rattle.flash_cli.specs.Command.{cores_of, words_of}
 

@@ -5,11 +5,10 @@ ghost use Rattle.nor_device.specs.FlashSize.{IsFlashSize};
 ghost use Rattle.partition_table.specs.Layout.{IsPlaced};
 ghost use Rattle.flash_cli.specs.Command.{Boot};
 ghost use Rattle.flash_cli.specs.Boot.{BootEnds, boot_answer, shown_started, started_in, started_with};
-ghost use Rattle.flash_cli.specs.Device.{IsSure};
+ghost use Rattle.update_run.specs.Device.{IsSure};
 ghost use Rattle.flash_cli.specs.Report.{IsEnd, IsWorkedOut, reading_of};
 
 use crate::answer::Answer;
-use crate::device::{bytes_of, device_of};
 use crate::error::CommandError;
 use crate::files::needed_file;
 use crate::laid::layout_of;
@@ -19,6 +18,7 @@ use nor_device::Nor;
 use partition_table::{App, Layout};
 use pipe_ends::Store;
 use std::alloc::Global;
+use update_run::{bytes_of, device_of};
 
 /// A flash that was booted: what was started, the length of its image in bytes, how many steps were
 /// made before, and the flash that they leave.

@@ -7,12 +7,11 @@ ghost use Rattle.boot_select.specs.Boots.{entries_in};
 ghost use Rattle.boot_run.specs.Verdict.{confirmation};
 ghost use Rattle.flash_cli.specs.Command.{Confirm};
 ghost use Rattle.flash_cli.specs.Confirm.{confirm_answer, confirm_refusal, confirmed_in};
-ghost use Rattle.flash_cli.specs.Device.{IsSure};
+ghost use Rattle.update_run.specs.Device.{IsSure};
 ghost use Rattle.flash_cli.specs.Verdict.{VerdictEnds, shown_judged};
 ghost use Rattle.flash_cli.specs.Report.{IsEnd, IsWorkedOut, reading_of};
 
 use crate::answer::Answer;
-use crate::device::{bytes_of, device_of};
 use crate::error::CommandError;
 use crate::files::needed_file;
 use crate::laid::layout_of;
@@ -23,6 +22,7 @@ use nor_device::Nor;
 use partition_table::{App, Layout};
 use pipe_ends::Store;
 use std::alloc::Global;
+use update_run::{bytes_of, device_of};
 
 /// Carries out `confirm`: the file with the flash once the active entry is VALID, and the
 /// application of its slot; or that there is none.

@@ -9,7 +9,6 @@ mod choice;
 mod choose;
 mod command;
 mod confirm;
-mod device;
 mod error;
 mod files;
 mod flash_make;
@@ -21,9 +20,7 @@ mod laid;
 #[cfg(test)]
 mod large_tests;
 mod laws;
-mod opening;
 mod reject;
-mod running;
 mod serve;
 mod served;
 mod status;
@@ -38,6 +35,7 @@ mod table_show;
 mod tests;
 mod text;
 mod top;
+mod unbegun;
 #[cfg(test)]
 mod update_tests;
 mod update_words;

@@ -8,12 +8,11 @@ ghost use Rattle.boot_run.specs.Read.{whole_in};
 ghost use Rattle.boot_run.specs.Verdict.{rejection};
 ghost use Rattle.flash_cli.specs.Command.{Reject};
 ghost use Rattle.flash_cli.specs.Reject.{reject_answer, reject_refusal, rejected_in};
-ghost use Rattle.flash_cli.specs.Device.{IsSure};
+ghost use Rattle.update_run.specs.Device.{IsSure};
 ghost use Rattle.flash_cli.specs.Verdict.{VerdictEnds, shown_judged};
 ghost use Rattle.flash_cli.specs.Report.{IsEnd, IsWorkedOut, reading_of};
 
 use crate::answer::Answer;
-use crate::device::{bytes_of, device_of};
 use crate::error::CommandError;
 use crate::files::needed_file;
 use crate::laid::layout_of;
@@ -24,6 +23,7 @@ use nor_device::Nor;
 use partition_table::{App, Layout};
 use pipe_ends::Store;
 use std::alloc::Global;
+use update_run::{bytes_of, device_of};
 
 /// Carries out `reject`: the file with the flash once the active entry is INVALID, and the
 /// application of its slot; or that there is none, or no other one that would boot.

@@ -4,7 +4,7 @@
 ghost use Rattle.std.specs.Prelude.{◌≡◌, None, Some, IfSome, IsSome};
 ghost use Rattle.pipe_ends.specs.Fault.{Rose};
 ghost use Rattle.flash_cli.specs.Command.{asked};
-ghost use Rattle.flash_cli.specs.Opening.{AreOptions};
+ghost use Rattle.update_run.specs.Options.{AreOptions};
 ghost use Rattle.flash_cli.specs.UpdateWords.{asked_update, shown_update};
 ghost use Rattle.flash_cli.specs.SweepWords.{IsPlain, asked_sweep, shown_sweep};
 ghost use Rattle.flash_cli.specs.Status.{IsWork, IsDevices};

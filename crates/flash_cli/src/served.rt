@@ -2,10 +2,11 @@
 
 ghost use Rattle.std.specs.Prelude.{◌≡◌, None, Some};
 ghost use Rattle.pipe_ends.specs.Fault.{Rose};
-ghost use Rattle.flash_cli.specs.Opening.{AreOptions};
+ghost use Rattle.update_run.specs.Options.{AreOptions};
 ghost use Rattle.flash_cli.specs.UpdateWords.{shown_update};
 ghost use Rattle.flash_cli.specs.Served.{AreReadable, EndsBy, IsPushed, IsRefusal, IsUpdateWork, Refuses};
-ghost use Rattle.flash_cli.specs.Updating.{last_end, status_by};
+ghost use Rattle.update_run.specs.Updating.{last_end};
+ghost use Rattle.flash_cli.specs.Updating.{status_by};
 
 use crate::error::CommandError;
 use crate::status::Status;

@@ -3,12 +3,13 @@
 ghost use Rattle.std.specs.Prelude.{◌≡◌, ◌≤◌, IfSome, option_map, option_copied};
 ghost use Rattle.crash_images.specs.Cut.{IsAhead};
 ghost use Rattle.flash_cli.specs.Command.{words_of};
-ghost use Rattle.flash_cli.specs.Opening.{AreOptions};
+ghost use Rattle.update_run.specs.Options.{AreOptions};
 ghost use Rattle.flash_cli.specs.UpdateWords.{are_both, driver_by, named, options_of, shown_update, step_by, tear_by, update_made, update_of, upto_by, upto_named, value_of};
 
 use crate::command::{Kind, row_of, table};
 use pipe_ends::{number_up_to, read_number};
 use power_cut::Upto;
+use update_run::Options;
 
 /// An update: the names of its files as they stand in the words, and its options.
 #[derive(Clone, Copy, Debug, PartialEq, Eq)]
@@ -18,17 +19,6 @@ pub(crate) struct Update<'a> {
     pub(crate) script: &'a str,
     pub(crate) out: &'a str,
     pub(crate) options: Options,
-}
-
-/// The options of an update: the core that writes, the step in which the power goes off, the number
-/// of the bytes that a broken step leaves, the step in which the device fails, and how far it goes.
-#[derive(Clone, Copy, Debug, PartialEq, Eq)]
-pub(crate) struct Options {
-    pub(crate) driver: u8,
-    pub(crate) cut: Option<u64>,
-    pub(crate) tear: u64,
-    pub(crate) fail: Option<u64>,
-    pub(crate) upto: Upto,
 }
 
 impl<'a> Update<'a> {
@@ -56,7 +46,7 @@ impl<'a> Update<'a> {
     {
         match kind {
             Kind::Update => {
-                let options = Options::read(options)?;
+                let options = options_of(options)?;
                 Update::named(names, options)
             }
             _ => None,
@@ -82,29 +72,27 @@ impl<'a> Update<'a> {
     }
 }
 
-impl Options {
-    /// The options that words are, where each value is one, and at most one step is to end badly.
-    #[tactic(auto, unfolding(crate::specs::UpdateWords::options_of))]
-    fn read(words: &[String]) -> Option<Options>
-        ensures exact { result ≡ options_of (words_of words.now) }
-        ensures sound { IfSome result AreOptions }
-    {
-        let driver = driver_by(value_of("--driver", words))?;
-        let cut = step_by(value_of("--cut", words))?;
-        let tear = tear_by(value_of("--tear", words))?;
-        let fail = step_by(value_of("--fail", words))?;
-        let upto = upto_by(value_of("--upto", words))?;
-        if are_both(cut, fail) {
-            return None;
-        }
-        Some(Options {
-            driver,
-            cut,
-            tear,
-            fail,
-            upto,
-        })
+/// The options that words are, where each value is one, and at most one step is to end badly.
+#[tactic(auto, unfolding(crate::specs::UpdateWords::options_of))]
+fn options_of(words: &[String]) -> Option<Options>
+    ensures exact { result ≡ options_of (words_of words.now) }
+    ensures sound { IfSome result AreOptions }
+{
+    let driver = driver_by(value_of("--driver", words))?;
+    let cut = step_by(value_of("--cut", words))?;
+    let tear = tear_by(value_of("--tear", words))?;
+    let fail = step_by(value_of("--fail", words))?;
+    let upto = upto_by(value_of("--upto", words))?;
+    if are_both(cut, fail) {
+        return None;
     }
+    Some(Options {
+        driver,
+        cut,
+        tear,
+        fail,
+        upto,
+    })
 }
 
 /// The value of an option among options with their values, if it is there.

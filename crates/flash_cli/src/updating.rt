@@ -1,7 +1,7 @@
 //! The command `update FLASH IMAGE SCRIPT OUT`: its files, and the update of them.
 
 ghost use Rattle.std.specs.Prelude.{◌≡◌, ◌≤◌, IfOk};
-ghost use Rattle.flash_cli.specs.Opening.{AreOptions};
+ghost use Rattle.update_run.specs.Options.{AreOptions};
 ghost use Rattle.flash_cli.specs.Served.{AreReadable};
 ghost use Rattle.flash_cli.specs.UpdateWords.{shown_update};
 ghost use Rattle.flash_cli.specs.Updating.{IsUpdateEnd, UpdateOf};
@@ -9,15 +9,15 @@ ghost use Rattle.flash_cli.specs.Paced.{IsPacedUpdate, PacedOf};
 
 use crate::error::{CommandError, Failure};
 use crate::files::needed_file;
-use crate::opening::opened;
-use crate::running::run;
-use crate::update_words::{Options, Update};
+use crate::unbegun::error_of;
+use crate::update_words::Update;
 use flash_ops::Pace;
 use pipe_ends::Store;
 use power_cut::Trial;
 use std::alloc::Global;
 use std::sync::Wait;
 use std::thread::Threads;
+use update_run::{Options, make_update, open_update};
 
 /// Reads the files of an update and makes it, or tells why it was not made.
 pub(crate) fn run_update<S: Store, P: Pace + Sync, R: Threads + Wait + Sync>(
@@ -58,8 +58,11 @@ fn update_of<P: Pace + Sync, R: Threads + Wait + Sync>(
     ensures told { IfOk result
         (PacedOf (P.told pace.now) flash.items image.now text.now options.now) }
 {
-    let opening = opened(alloc, flash, image, text)?;
-    match run(rt, alloc, opening, image, options, pace) {
+    let opening = match open_update(alloc, flash, image, text) {
+        Ok(opening) => opening,
+        Err(no) => return Err(error_of(no)),
+    };
+    match make_update(rt, alloc, opening, image, options, pace) {
         Ok(trial) => Ok(trial),
         Err(_) => Err(CommandError::Failed(Failure::Memory)),
     }

@@ -37,7 +37,8 @@ use Rattle.power_cut.specs.Device.{MayEnd, MayRefuse, MayTear, MustRefuse, setti
 use Rattle.power_cut.specs.Kept.{IsConfirming, IsConfirmLeg, IsSessionLeg}
 use Rattle.power_cut.specs.Sweep.{IsUntouched, offset_or_none}
 use Rattle.power_cut.specs.Update.{HoldsRewrite, HoldsUpdate, Opens}
-use Rattle.power_cut.specs.Whole.{IsBootLeg, boot_steps}
+use Rattle.power_cut.specs.Whole.{IsBootLeg}
+use Rattle.boot_run.specs.BootSteps.{boot_steps}
 use Rattle.power_cut.proofs.BehindLemmas.{two}
 use Rattle.power_cut.proofs.LegLemmas.{holds_behind}
 

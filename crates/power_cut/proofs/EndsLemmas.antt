@@ -30,7 +30,8 @@ use Rattle.power_cut.specs.declared.legs.LegEnd.{LegEnd}
 use Rattle.power_cut.specs.declared.legs.LegEnd.TheVariants.{Done, Device, Cut, FirstByte, Empty, Bad}
 use Rattle.power_cut.specs.Device.{HasEnd, IsRan, IsReady, IsUnbroken, IsWholeEnd, MayEnd, MayRefuse, MayTear, MustRefuse, RamMayEnd, RamMayRefuse, is_cut, is_off, running_in, setting_of}
 use Rattle.power_cut.specs.Refused.{end_asked}
-use Rattle.power_cut.specs.Whole.{HasBooted, IsBootLeg, boot_steps, end_by, is_done, started_by}
+use Rattle.power_cut.specs.Whole.{HasBooted, IsBootLeg, end_by, is_done, started_by}
+use Rattle.boot_run.specs.BootSteps.{boot_steps}
 
 -- a step ends by the choice alone
 pub by_choice : (set : CutSetting (Unit {0})) (n : ℕ) (end : StepEnd) → MayEnd set n end

@@ -41,7 +41,8 @@ use Rattle.power_cut.specs.Installed.{AllLieIn, booted_flash, confirmed_flash, i
 use Rattle.power_cut.specs.Kept.{IsConfirmLeg, IsSessionLeg, MayConfirm}
 use Rattle.power_cut.specs.Leg.{share_of}
 use Rattle.power_cut.specs.Update.{Opens, session_end, slot_size}
-use Rattle.power_cut.specs.Whole.{AreDone, BehindBoot, BehindSession, EndsBooted, EndsWith, IsBootLeg, IsTrial, boot_steps, end_by, is_done, wants_boot}
+use Rattle.power_cut.specs.Whole.{AreDone, BehindBoot, BehindSession, EndsBooted, EndsWith, IsBootLeg, IsTrial, end_by, is_done, wants_boot}
+use Rattle.boot_run.specs.BootSteps.{boot_steps}
 use Rattle.power_cut.proofs.BehindLemmas.{announced_active, announced_writes, booted_waits, session_announced, size_is, two, waiting}
 use Rattle.power_cut.proofs.MergeLemmas.{leg_installs}
 use Rattle.power_cut.proofs.WholeLemmas.{sealed_whole}

@@ -3,6 +3,7 @@ pub mod BehindLemmas
 pub mod EndsLemmas
 pub mod ChosenLemmas
 pub mod WholeLemmas
+pub mod TrialLemmas
 pub mod LogLemmas
 pub mod LegLemmas
 pub mod MergeLemmas

@@ -39,7 +39,8 @@ use Rattle.power_cut.specs.declared.outcome.Trial.{Trial}
 use Rattle.power_cut.specs.Device.{HasEnd, IsReady, IsWholeEnd, running_in}
 use Rattle.power_cut.specs.Update.{BootsEither, Opens, sealed_end, session_end, slot_size}
 use Rattle.power_cut.specs.Kept.{IsStarted, KeepsConfirm, KeepsSession, MayConfirm}
-use Rattle.power_cut.specs.Whole.{AreDone, BehindBoot, BehindSession, BootsNew, BootsNewBehind, EndsAsChosen, EndsWith, HasBooted, HoldsBoot, HoldsConfirm, IsBootLeg, IsClosed, IsOutcome, boot_steps, confirm_of, is_done, wants_boot, wants_confirm}
+use Rattle.power_cut.specs.Whole.{AreDone, BehindBoot, BehindSession, BootsNew, BootsNewBehind, EndsAsChosen, EndsWith, HasBooted, HoldsBoot, HoldsConfirm, IsBootLeg, IsClosed, IsOutcome, confirm_of, is_done, wants_boot, wants_confirm}
+use Rattle.boot_run.specs.BootSteps.{boot_steps}
 use Rattle.power_cut.specs.Behind.{IsAnnounced, IsBehind}
 use Rattle.power_cut.proofs.ChosenLemmas.{boot_chosen, confirm_chosen, session_chosen}
 use Rattle.power_cut.proofs.BehindLemmas.{announced_active, announced_boots, announced_writes, behind_boots, behind_some, beside_behind, beside_here, booted_first, booted_waits, confirmed_new, confirming, left_behind, session_announced, two, waiting}

@@ -10,7 +10,7 @@ use Rattle.image_layout.specs.Whole.{Whole}
 use Rattle.image_verify.specs.Held.{held}
 use Rattle.boot_run.specs.declared.aims.Aim.{Aim}
 use Rattle.power_cut.specs.Update.{Opens, image_of, slot_size}
-use Rattle.power_cut.specs.Whole.{boot_steps}
+use Rattle.boot_run.specs.BootSteps.{boot_steps}
 
 -- seen from the flash at the opening: both applications have their images, which are whole; the
 -- table and the entry beside the next one are as they were

@@ -9,7 +9,7 @@ use Rattle.boot_run.specs.Rewriting.{rewrite}
 use Rattle.update_steps.specs.Driver.{driver_steps}
 use Rattle.power_cut.specs.declared.legs.Upto.{Upto}
 use Rattle.power_cut.specs.declared.legs.Upto.TheVariants.{Session, Boot, Confirm}
-use Rattle.power_cut.specs.Whole.{boot_steps}
+use Rattle.boot_run.specs.BootSteps.{boot_steps}
 
 -- each address of the step is one at which another core may write, or is none
 abbrev pub LiesIn : (ℕ → Bool) → Bool → Step → Type 0

@@ -12,7 +12,6 @@ use Rattle.partition_table.specs.declared.app.App.TheVariants.{Ota}
 use Rattle.partition_table.specs.Layout.{Places}
 use Rattle.boot_select.specs.Boots.{entries_in, images_in}
 use Rattle.rollback.specs.declared.rewrite.Rewrite.{Rewrite}
-use Rattle.rollback.specs.Boot.{boot_writes}
 use Rattle.rollback.specs.Boots.{boots_in}
 use Rattle.image_verify.specs.Held.{held}
 use Rattle.bus_hub.specs.Room.{Kept}
@@ -20,7 +19,8 @@ use Rattle.boot_run.specs.declared.aims.Aim.{Aim}
 use Rattle.boot_run.specs.declared.booted.Booted.{Booted}
 use Rattle.boot_run.specs.Booted.{IsBoot}
 use Rattle.boot_run.specs.Made.{AreMadeBy}
-use Rattle.boot_run.specs.Rewriting.{rewrite, rewrites}
+use Rattle.boot_run.specs.BootSteps.{boot_steps}
+use Rattle.boot_run.specs.Rewriting.{rewrite}
 use Rattle.boot_run.specs.Verified.{Starts}
 use Rattle.update_steps.specs.Beside.{IsApart, StandsBeside}
 use Rattle.update_steps.specs.Driver.{driver_steps}
@@ -34,10 +34,6 @@ use Rattle.power_cut.specs.declared.outcome.Trial.{Trial}
 use Rattle.power_cut.specs.Device.{HasEnd, IsRan, IsReady, MayEnd, MayRefuse, MayTear, MustRefuse, setting_of}
 use Rattle.power_cut.specs.Update.{BootsEither, HoldsRewrite, session_end, slot_size}
 use Rattle.power_cut.specs.Kept.{MayConfirm}
-
--- the steps of a boot of this flash
-abbrev pub boot_steps : Places → List ℕ → List Step
-boot_steps layout flash = rewrites layout.otadata (boot_writes (entries_in layout flash))
 
 -- at every moment of a boot of this flash: of each flash that a loss of power may leave one of both
 -- applications boots, but for chance, seen from the first flash; and some application boots

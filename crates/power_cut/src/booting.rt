@@ -8,7 +8,8 @@ ghost use Rattle.rollback.specs.Boots.{boots_in};
 ghost use Rattle.image_verify.specs.Held.{held};
 ghost use Rattle.boot_run.specs.Booted.{boot_answer};
 ghost use Rattle.power_cut.specs.Device.{IsReady};
-ghost use Rattle.power_cut.specs.Whole.{HasBooted, IsBootLeg, boot_steps, end_by, is_done, started_by};
+ghost use Rattle.power_cut.specs.Whole.{HasBooted, IsBootLeg, end_by, is_done, started_by};
+ghost use Rattle.boot_run.specs.BootSteps.{boot_steps};
 
 use crate::legs::{Leg, LegEnd};
 use boot_run::{BootFault, Booted, boot};

@@ -1,5 +1,0 @@
-use Rattle.flash_cli.proofs.AimLaws.{aims_are_one, one_flash}
-use Rattle.flash_cli.proofs.laws.an_update_leaves_one_flash.Goals as goal
-
-pub returns : goal.returns
-returns c = record { aim = aims_are_one; flash = one_flash }

@@ -1,5 +1,0 @@
-use Rattle.flash_cli.proofs.MomentLaws.{sweeps_boot_new, updates_boot_new}
-use Rattle.flash_cli.proofs.laws.once_confirmed_the_new_application_boots.Goals as goal
-
-pub returns : goal.returns
-returns c = record { update = updates_boot_new; sweep = sweeps_boot_new }

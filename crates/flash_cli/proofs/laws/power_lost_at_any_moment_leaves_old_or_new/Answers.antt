@@ -1,5 +1,0 @@
-use Rattle.flash_cli.proofs.MomentLaws.{sweeps_keep_booting, updates_keep_booting}
-use Rattle.flash_cli.proofs.laws.power_lost_at_any_moment_leaves_old_or_new.Goals as goal
-
-pub returns : goal.returns
-returns c = record { update = updates_keep_booting; sweep = sweeps_keep_booting }

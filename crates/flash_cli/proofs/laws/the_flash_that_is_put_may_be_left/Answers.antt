@@ -1,9 +1,0 @@
-use Rattle.flash_cli.proofs.MomentLaws.{put_flashes_keep_booting, put_flashes_may_be_left, swept_flashes_may_be_left}
-use Rattle.flash_cli.proofs.laws.the_flash_that_is_put_may_be_left.Goals as goal
-
-pub returns : goal.returns
-returns c = record {
-  update = put_flashes_may_be_left;
-  sweep = swept_flashes_may_be_left;
-  keeps = put_flashes_keep_booting;
-}

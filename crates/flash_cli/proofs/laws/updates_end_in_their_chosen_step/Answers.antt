@@ -1,5 +1,0 @@
-use Rattle.flash_cli.proofs.UpdateLaws.{cut_reached, else_by_image, failure_reached}
-use Rattle.flash_cli.proofs.laws.updates_end_in_their_chosen_step.Goals as goal
-
-pub returns : goal.returns
-returns c = record { cut = cut_reached; failure = failure_reached; image = else_by_image }
