@@ -10,7 +10,7 @@ use Rattle.bus_hub.specs.declared.did.Running.{Running}
 use Rattle.bus_hub.specs.declared.did.Did.{Did}
 use Rattle.bus_hub.specs.declared.did.Did.TheVariants.{Opened, Closed, Broken, Fetched, Noted, Denied, Mapping, Unmapping, Missed, Masked, Unfetched}
 use Rattle.bus_hub.specs.Log.{Item, of_core, State, Runs, Rule, change, made_whole, reached}
-use Rattle.bus_hub.specs.Hub.{entries_of, bytes_of, needs, byte_needs, owed}
+use Rattle.bus_hub.specs.Hub.{entries_needed, bytes_needed, needs, byte_needs, owed}
 use Rattle.bus_hub.proofs.Logs.{Keeps}
 
 -- a list with one more
@@ -29,13 +29,13 @@ need_more (suc zero) n left right small = omega arith
 need_more (suc (suc c)) n left right small = absurd (omega arith)
 
 needs_cond : (b : Bool) (did : Did) (share : List Did)
-    → needs (cond b (did ∷ share) share) ≡ cond b (entries_of did + needs share) (needs share)
+    → needs (cond b (did ∷ share) share) ≡ cond b (entries_needed did + needs share) (needs share)
 needs_cond true did share = refl
 needs_cond false did share = refl
 
 byte_needs_cond : (b : Bool) (did : Did) (share : List Did)
     → byte_needs (cond b (did ∷ share) share)
-    ≡ cond b (bytes_of did + byte_needs share) (byte_needs share)
+    ≡ cond b (bytes_needed did + byte_needs share) (byte_needs share)
 byte_needs_cond true did share = refl
 byte_needs_cond false did share = refl
 
@@ -65,7 +65,7 @@ module _ {S K P : Type 0}
 
   -- what an item spends
   spends : (set : S) (s : State K) (c : ℕ) (did : Did) → Obeys set s c did
-      → spent (change after s c did) ≡ spent s + entries_of did
+      → spent (change after s c did) ≡ spent s + entries_needed did
   spends set s c (Opened k regs step) rule =
       omega (arith, one_longer {A = Entry}, owed_none s.running rule.0)
   spends set s c (Closed k regs) rule =
@@ -88,7 +88,7 @@ module _ {S K P : Type 0}
   spends set s c (Unfetched at len why) rule = omega arith
 
   spends_bytes : (set : S) (s : State K) (c : ℕ) (did : Did) → Obeys set s c did
-      → length (change after s c did).bytes ≡ length s.bytes + bytes_of did
+      → length (change after s c did).bytes ≡ length s.bytes + bytes_needed did
   spends_bytes set s c (Opened k regs step) rule = omega arith
   spends_bytes set s c (Closed k regs) rule =
       let e = ap (λ (bytes : List ℕ). length bytes) (same_bytes s c s.running) in
@@ -113,7 +113,7 @@ module _ {S K P : Type 0}
         arith,
         spent_log set (change after s x.core x.did) log all.2,
         spends set s x.core x.did all.1,
-        need_more x.core (entries_of x.did) (needs (of_core 0 log)) (needs (of_core 1 log)) all.0,
+        need_more x.core (entries_needed x.did) (needs (of_core 0 log)) (needs (of_core 1 log)) all.0,
         needs_cond (x.core == 0) x.did (of_core 0 log),
         needs_cond (x.core == 1) x.did (of_core 1 log),
       )
@@ -128,7 +128,7 @@ module _ {S K P : Type 0}
         arith,
         bytes_log set (change after s x.core x.did) log all.2,
         spends_bytes set s x.core x.did all.1,
-        need_more x.core (bytes_of x.did) (byte_needs (of_core 0 log))
+        need_more x.core (bytes_needed x.did) (byte_needs (of_core 0 log))
             (byte_needs (of_core 1 log)) all.0,
         byte_needs_cond (x.core == 0) x.did (of_core 0 log),
         byte_needs_cond (x.core == 1) x.did (of_core 1 log),

@@ -12,7 +12,7 @@ use Rattle.nor_device.specs.declared.nor.NorFault.{NorFault}
 use Rattle.nor_device.specs.declared.nor.NorFault.TheVariants.{Failed, Off}
 use Rattle.nor_device.specs.Flash.{applied}
 use Rattle.nor_device.specs.Torn.{Torn}
-use Rattle.nor_device.specs.Nor.{end_by, HasCause, IsMade, IsLeftTorn}
+use Rattle.nor_device.specs.Nor.{end_by, HasCause, IsMadeWhole, IsLeftTorn}
 use Rattle.bus_hub.specs.declared.did.Did.{Did}
 use Rattle.bus_hub.specs.declared.did.Did.TheVariants.{Opened, Closed, Broken, Denied}
 use Rattle.bus_hub.specs.declared.did.Running.{Running}
@@ -221,10 +221,10 @@ module _ {D S K P : Type 0}
             (sym p.steps_same);
       })) where
         made_told : (flash : List ℕ) → bytes old.dev ≡ Some flash
-            → IsMade (Some run.step) (bytes old.dev) (bytes new.dev)
+            → IsMadeWhole (Some run.step) (bytes old.dev) (bytes new.dev)
             → bytes new.dev ≡ Some (applied flash run.step)
         made_told flash told made =
-            subst (λ (t : Option (List ℕ)). IsMade (Some run.step) t (bytes new.dev)) told made
+            subst (λ (t : Option (List ℕ)). IsMadeWhole (Some run.step) t (bytes new.dev)) told made
 
   -- a step that was broken off
   broken_is : (old new : Hub D K) (run : Running) (regs : Regs) (why : NorFault)

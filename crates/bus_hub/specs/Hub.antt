@@ -98,42 +98,42 @@ begun b = record {
 }
 
 -- how many entries of the journal an item needs: a step's end is counted at its begin
-abbrev pub entries_of : Did → ℕ
-entries_of (Opened k regs step) = 2
-entries_of (Closed k regs) = 0
-entries_of (Broken k regs why left) = 0
-entries_of (Fetched k regs at bytes) = 1
-entries_of (Noted k regs act) = 1
-entries_of (Denied why) = 0
-entries_of (Mapping flash_page n space answer) = 0
-entries_of (Unmapping at answer) = 0
-entries_of (Missed at len) = 0
-entries_of (Masked at len) = 0
-entries_of (Unfetched at len why) = 0
+abbrev pub entries_needed : Did → ℕ
+entries_needed (Opened k regs step) = 2
+entries_needed (Closed k regs) = 0
+entries_needed (Broken k regs why left) = 0
+entries_needed (Fetched k regs at bytes) = 1
+entries_needed (Noted k regs act) = 1
+entries_needed (Denied why) = 0
+entries_needed (Mapping flash_page n space answer) = 0
+entries_needed (Unmapping at answer) = 0
+entries_needed (Missed at len) = 0
+entries_needed (Masked at len) = 0
+entries_needed (Unfetched at len why) = 0
 
 -- how many bytes it needs
-abbrev pub bytes_of : Did → ℕ
-bytes_of (Opened k regs step) = 0
-bytes_of (Closed k regs) = 0
-bytes_of (Broken k regs why left) = 0
-bytes_of (Fetched k regs at bytes) = length bytes
-bytes_of (Noted k regs act) = 0
-bytes_of (Denied why) = 0
-bytes_of (Mapping flash_page n space answer) = 0
-bytes_of (Unmapping at answer) = 0
-bytes_of (Missed at len) = 0
-bytes_of (Masked at len) = 0
-bytes_of (Unfetched at len why) = 0
+abbrev pub bytes_needed : Did → ℕ
+bytes_needed (Opened k regs step) = 0
+bytes_needed (Closed k regs) = 0
+bytes_needed (Broken k regs why left) = 0
+bytes_needed (Fetched k regs at bytes) = length bytes
+bytes_needed (Noted k regs act) = 0
+bytes_needed (Denied why) = 0
+bytes_needed (Mapping flash_page n space answer) = 0
+bytes_needed (Unmapping at answer) = 0
+bytes_needed (Missed at len) = 0
+bytes_needed (Masked at len) = 0
+bytes_needed (Unfetched at len why) = 0
 
 -- the entries that a share needs
 abbrev pub needs : List Did → ℕ
 needs [] = 0
-needs (did ∷ share) = entries_of did + needs share
+needs (did ∷ share) = entries_needed did + needs share
 
 -- the bytes that it needs
 abbrev pub byte_needs : List Did → ℕ
 byte_needs [] = 0
-byte_needs (did ∷ share) = bytes_of did + byte_needs share
+byte_needs (did ∷ share) = bytes_needed did + byte_needs share
 
 -- the entry that the running step still has to come
 abbrev pub owed : Option Running → ℕ

@@ -8,7 +8,7 @@ use Rattle.nor_device.specs.declared.nor.StepEnd.{StepEnd}
 use Rattle.nor_device.specs.declared.nor.StepEnd.TheVariants as ends
 use Rattle.nor_device.specs.declared.nor.NorFault.{NorFault}
 use Rattle.nor_device.specs.declared.nor.NorFault.TheVariants as whys
-use Rattle.nor_device.specs.Nor.{Rose, one_more, end_by, part_of, HasCause, IsMade, IsLeftTorn}
+use Rattle.nor_device.specs.Nor.{Rose, one_more, end_by, part_of, HasCause, IsMadeWhole, IsLeftTorn}
 use Rattle.bus_hub.specs.declared.entry.Act.TheVariants.{Close, Fetch}
 use Rattle.bus_hub.specs.declared.did.Running.{Running}
 use Rattle.bus_hub.specs.declared.did.Did.{Did}
@@ -113,7 +113,7 @@ module _ {D S : Type 0}
   pub record Polls (old new : D) (running : Option Step) (r : Result Ready NorFault) : Type 0 where
     pub powered : off old ≡ false
     pub busy : r ≡ Ok answers.Busy → bytes new ≡ bytes old
-    pub made : r ≡ Ok answers.Ready → IsMade running (bytes old) (bytes new)
+    pub made : r ≡ Ok answers.Ready → IsMadeWhole running (bytes old) (bytes new)
     pub done : r ≡ Ok answers.Ready → may_end (setting old) (steps old) ends.Done
     pub torn : OnErr r (IsLeftTorn (may_tear (setting old) (steps old)) running (bytes old)
         (bytes new))

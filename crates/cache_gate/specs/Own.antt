@@ -203,8 +203,8 @@ pub record IsPartOf {H B : Type 0} (stands : H → B → List Did → List Did �
   pub part : IsPart (bytes bus) at (length out) out
 
 -- a step that was made whole
-abbrev pub IsMade : {B : Type 0} → ℕ → Step → Own B Did → Own B Did → Type 0
-IsMade k step o o' = Adds (Opened k masked step ∷ Closed k masked ∷ []) o o'
+abbrev pub AddsWholeStep : {B : Type 0} → ℕ → Step → Own B Did → Own B Did → Type 0
+AddsWholeStep k step o o' = Adds (Opened k masked step ∷ Closed k masked ∷ []) o o'
 
 -- a step that was broken off, and left this flash
 pub record IsBroken {B : Type 0} (k : ℕ) (step : Step) (why : NorFault) (o o' : Own B Did)
@@ -215,7 +215,7 @@ pub record IsBroken {B : Type 0} (k : ℕ) (step : Step) (why : NorFault) (o o' 
 -- what a step added to the share, by its answer: it was made; or it was not begun, or broken off
 abbrev pub HasStepped : {B : Type 0} → ℕ → Step → Result (Unit {0}) NorFault → Own B Did
     → Own B Did → Type 0
-HasStepped k step (Ok _) o o' = IsMade k step o o'
+HasStepped k step (Ok _) o o' = AddsWholeStep k step o o'
 HasStepped k step (Err why) o o' = Adds (Denied why ∷ []) o o' ⊎ IsBroken k step why o o'
 
 -- what both cores leave: one run of both, of which each has seen a beginning and nothing of its own came

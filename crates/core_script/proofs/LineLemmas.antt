@@ -5,10 +5,10 @@ use Rattle.std.proofs.lemmas.Bool.Decides.{nat_tests}
 use Rattle.std.proofs.lemmas.List.{append-nil}
 use Rattle.core_script.specs.declared.action.Action.{Action}
 use Rattle.core_script.specs.declared.refusal.ScriptWhy.{ScriptWhy}
-use Rattle.core_script.specs.Action.{sectors_in, sectors_of}
+use Rattle.core_script.specs.Action.{sectors_in, sectors_in_all}
 use Rattle.core_script.specs.Lines.{IsScriptOf, told_of}
 use Rattle.core_script.specs.ScriptText.{action_of, after_line, after_lines, joined, script_of_text}
-use Rattle.core_script.proofs.ActionLemmas.{sectors_of-append, sectors_of-snoc}
+use Rattle.core_script.proofs.ActionLemmas.{sectors_in_all-append, sectors_in_all-snoc}
 use Rattle.pipe_ends.specs.Words.{is_skipped, lines_of, words_of}
 
 -- lines add to the actions before them their own, and keep to the limits
@@ -17,7 +17,7 @@ record Grown (lines : List (List ℕ)) (before after : List Action) : Type 0 whe
   is : after ≡ before ++ rest
   lines_are : map action_of (told_of lines) ≡ map Ok rest
   few : length after ≤ 4096
-  sectors : sectors_of after ≤ 65536
+  sectors : sectors_in_all after ≤ 65536
 
 -- a line that says something has its action
 told_one : (line : List ℕ) (lines : List (List ℕ)) (action : Action) (rest : List Action)
@@ -34,13 +34,13 @@ told_none : (line : List ℕ) (lines : List (List ℕ)) (rest : List Action)
 told_none line lines rest told others = rw told others
 
 module _ (number : ℕ) (line : List ℕ) (lines : List (List ℕ)) (before after : List Action)
-    (few : length before ≤ 4096) (sectors : sectors_of before ≤ 65536)
-    (later : (next : List Action) → length next ≤ 4096 → sectors_of next ≤ 65536
+    (few : length before ≤ 4096) (sectors : sectors_in_all before ≤ 65536)
+    (later : (next : List Action) → length next ≤ 4096 → sectors_in_all next ≤ 65536
     → after_lines (number + 1) next lines ≡ Ok after → Grown lines next after) where
   -- a line with an action, by the two limits
   grown_by : (action : Action) (many much : Bool) → is_skipped (words_of line) ≡ false
       → action_of (words_of line) ≡ Ok action → nat_le 4096 (length before) ≡ many
-      → nat_le (sectors_of before + sectors_in action) 65536 ≡ much
+      → nat_le (sectors_in_all before + sectors_in action) 65536 ≡ much
       → after_lines number before (line ∷ lines) ≡ Ok after → Grown (line ∷ lines) before after
   unfolding after_line joined
   grown_by action true much told is many_is much_is so_far =
@@ -52,7 +52,7 @@ module _ (number : ℕ) (line : List ℕ) (lines : List (List ℕ)) (before afte
       let here = rw (told, is, many_is, much_is) at so_far in
       let long : length next ≤ 4096 =
       grind (arith, nat_tests, length-append before (action ∷ [])) in
-      let much : sectors_of next ≤ 65536 = grind (arith, nat_tests, sectors_of-snoc before action) in
+      let much : sectors_in_all next ≤ 65536 = grind (arith, nat_tests, sectors_in_all-snoc before action) in
       let grown = later next long much here in
       record {
         rest = action ∷ grown.rest;
@@ -82,7 +82,7 @@ module _ (number : ℕ) (line : List ℕ) (lines : List (List ℕ)) (before afte
 
 -- what is read has an action a line
 grown : (number : ℕ) (lines : List (List ℕ)) (before after : List Action)
-    → length before ≤ 4096 → sectors_of before ≤ 65536
+    → length before ≤ 4096 → sectors_in_all before ≤ 65536
     → after_lines number before lines ≡ Ok after → Grown lines before after
 grown number [] before after few sectors so_far =
     let same : before ≡ after = cc in
@@ -112,12 +112,12 @@ script_has_lines text actions is =
 
 module _ (number : ℕ) (line : List ℕ) (lines : List (List ℕ)) (before : List Action)
     (later : (next rest : List Action) → map action_of (told_of lines) ≡ map Ok rest
-    → length (next ++ rest) ≤ 4096 → sectors_of (next ++ rest) ≤ 65536
+    → length (next ++ rest) ≤ 4096 → sectors_in_all (next ++ rest) ≤ 65536
     → after_lines (number + 1) next lines ≡ Ok (next ++ rest)) where
   -- a line that says something is read
   read_one : (action : Action) (rest : List Action) → is_skipped (words_of line) ≡ false
       → action_of (words_of line) ≡ Ok action → map action_of (told_of lines) ≡ map Ok rest
-      → length (before ++ (action ∷ rest)) ≤ 4096 → sectors_of (before ++ (action ∷ rest)) ≤ 65536
+      → length (before ++ (action ∷ rest)) ≤ 4096 → sectors_in_all (before ++ (action ∷ rest)) ≤ 65536
       → after_lines number before (line ∷ lines) ≡ Ok (before ++ (action ∷ rest))
   unfolding after_line joined
   read_one action rest told is others few sectors =
@@ -125,15 +125,15 @@ module _ (number : ℕ) (line : List ℕ) (lines : List (List ℕ)) (before : Li
       append_assoc before (action ∷ []) rest in
       let many : nat_le 4096 (length before) ≡ false =
       grind (arith, nat_tests, length-append before (action ∷ rest)) in
-      let much : nat_le (sectors_of before + sectors_in action) 65536 ≡ true =
-      grind (arith, nat_tests, sectors_of-append before (action ∷ rest)) in
+      let much : nat_le (sectors_in_all before + sectors_in action) 65536 ≡ true =
+      grind (arith, nat_tests, sectors_in_all-append before (action ∷ rest)) in
       let next = later (before ++ action ∷ []) rest others (rw whole few) (rw whole sectors) in
       rw (told, is, many, much) (next ∙ ap Ok whole)
 
   -- a line is read, by what it says
   read_line : (skipped : Bool) (rest : List Action) → is_skipped (words_of line) ≡ skipped
       → map action_of (told_of (line ∷ lines)) ≡ map Ok rest
-      → length (before ++ rest) ≤ 4096 → sectors_of (before ++ rest) ≤ 65536
+      → length (before ++ rest) ≤ 4096 → sectors_in_all (before ++ rest) ≤ 65536
       → after_lines number before (line ∷ lines) ≡ Ok (before ++ rest)
   unfolding after_line
   read_line true rest told others few sectors =
@@ -151,7 +151,7 @@ module _ (number : ℕ) (line : List ℕ) (lines : List (List ℕ)) (before : Li
 -- lines that have these actions are read so
 read : (number : ℕ) (lines : List (List ℕ)) (before rest : List Action)
     → map action_of (told_of lines) ≡ map Ok rest
-    → length (before ++ rest) ≤ 4096 → sectors_of (before ++ rest) ≤ 65536
+    → length (before ++ rest) ≤ 4096 → sectors_in_all (before ++ rest) ≤ 65536
     → after_lines number before lines ≡ Ok (before ++ rest)
 read number [] before [] others few sectors = ap Ok (sym (append-nil before))
 read number [] before (action ∷ rest) others few sectors = absurd cc

@@ -27,13 +27,13 @@ sectors_in (Write label offset bytes) = 0
 sectors_in (Erase label offset len) = div_ceil len 4096
 
 -- how many sectors actions erase, at most
-abbrev pub sectors_of : List Action → ℕ
-sectors_of [] = 0
-sectors_of (action ∷ actions) = sectors_in action + sectors_of actions
+abbrev pub sectors_in_all : List Action → ℕ
+sectors_in_all [] = 0
+sectors_in_all (action ∷ actions) = sectors_in action + sectors_in_all actions
 
 -- what holds of the actions of a script, which erase so many sectors
 pub record IsWithin (actions : List Action) (count : ℕ) : Type 0 where
   pub bounds : AllByRecursion IsInBounds actions
   pub few : length actions ≤ 4096
-  pub counted : count ≡ sectors_of actions
+  pub counted : count ≡ sectors_in_all actions
   pub most : count ≤ 65536

@@ -2,7 +2,7 @@
 use Rattle.std.specs.Prelude.{◌≡◌, ℕ, ◌≤◌, List, [], ◌∷◌, length, map, Ok, if◌then◌else◌}
 use Rattle.pipe_ends.specs.Words.{is_skipped, lines_of, words_of}
 use Rattle.core_script.specs.declared.action.Action.{Action}
-use Rattle.core_script.specs.Action.{sectors_of}
+use Rattle.core_script.specs.Action.{sectors_in_all}
 use Rattle.core_script.specs.ScriptText.{action_of}
 
 -- the words of the lines that say something
@@ -16,4 +16,4 @@ told_of (line ∷ lines) =
 pub record IsScriptOf (text : List ℕ) (actions : List Action) : Type 0 where
   pub lines : map action_of (told_of (lines_of text)) ≡ map Ok actions
   pub few : length actions ≤ 4096
-  pub sectors : sectors_of actions ≤ 65536
+  pub sectors : sectors_in_all actions ≤ 65536

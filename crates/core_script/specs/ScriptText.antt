@@ -12,7 +12,7 @@ use Rattle.core_script.specs.declared.refusal.ScriptNo.{ScriptNo}
 use Rattle.core_script.specs.declared.refusal.ScriptNo.TheVariants.{Bad, Memory}
 use Rattle.core_script.specs.declared.refusal.ScriptWhy.{ScriptWhy}
 use Rattle.core_script.specs.declared.refusal.ScriptWhy.TheVariants.{Word, Count, Space as NoSpace, Number, Label, Hex, Length, TooMany, TooMuch}
-use Rattle.core_script.specs.Action.{sectors_in, sectors_of}
+use Rattle.core_script.specs.Action.{sectors_in, sectors_in_all}
 
 -- ---- one line
 
@@ -50,8 +50,8 @@ answered (Ok x) = Some x
 answered (Err e) = None
 
 -- the bytes that a word spells by hex digits of either case, two for each
-unfoldable pub bytes_of : List ℕ → Option (List ℕ)
-bytes_of word = answered (decode_of word)
+unfoldable pub spelled_bytes : List ℕ → Option (List ℕ)
+spelled_bytes word = answered (decode_of word)
 
 -- a line `fetch ADDR LEN`
 unfoldable pub fetch_of : List (List ℕ) → Result Action ScriptWhy
@@ -87,7 +87,7 @@ unfoldable pub write_of : List (List ℕ) → Result Action ScriptWhy
 write_of words =
     counted 4 words (need (number_in 2 words) Number (λ offset.
     need (label_of (word_in 1 words)) Label (λ label.
-    need (bytes_of (word_in 3 words)) Hex (λ bytes.
+    need (spelled_bytes (word_in 3 words)) Hex (λ bytes.
     bounded (is_among 1 256 (length bytes) && nat_le (offset % 256 + length bytes) 256)
     (Write label offset bytes)))))
 
@@ -120,7 +120,7 @@ action_of words = if begins words (codes "write") then write_of words else plain
 unfoldable pub joined : List Action → Action → Result (List Action) ScriptWhy
 joined actions action =
     if nat_le 4096 (length actions) then Err TooMany
-    else (if nat_le (sectors_of actions + sectors_in action) 65536
+    else (if nat_le (sectors_in_all actions + sectors_in action) 65536
     then Ok (actions ++ action ∷ [])
     else Err TooMuch)
 

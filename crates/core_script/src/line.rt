@@ -4,7 +4,7 @@ ghost use Rattle.std.specs.Prelude.{◌≡◌, ◌⊎◌, ◌==◌, ◌≤◌, �
 ghost use Rattle.pipe_ends.specs.Number.{is_among};
 ghost use Rattle.pipe_ends.specs.Words.{word_in, words_of};
 ghost use Rattle.core_script.specs.Action.{IsInBounds};
-ghost use Rattle.core_script.specs.ScriptText.{IsRefusedAt, action_of, bytes_of, erase_of, fetch_of, irq_of, label_of, map_of, mask_of, number_in, plain_of, space_of, unmap_of, write_of};
+ghost use Rattle.core_script.specs.ScriptText.{IsRefusedAt, action_of, erase_of, fetch_of, irq_of, label_of, map_of, mask_of, number_in, plain_of, space_of, spelled_bytes, unmap_of, write_of};
 
 use crate::action::{Action, Label};
 use crate::refusal::{ScriptNo, ScriptWhy};
@@ -229,11 +229,11 @@ fn page_of(offset: u32, bytes: &[u8]) -> Option<Page>
 }
 
 /// The bytes that a word spells, if it does.
-#[tactic(auto, unfolding(crate::specs::ScriptText::bytes_of))]
+#[tactic(auto, unfolding(crate::specs::ScriptText::spelled_bytes))]
 fn bytes_of(alloc: Global, number: u64, word: &[u8]) -> Result<Vec<u8>, ScriptNo>
-    ensures ok { IfOk result (λ bytes. bytes_of word.now ≡ Some bytes.items) }
+    ensures ok { IfOk result (λ bytes. spelled_bytes word.now ≡ Some bytes.items) }
     ensures err { IfErr result (λ no. (no ≡ ScriptNo.Memory)
-        ⊎ ((no ≡ ScriptNo.Bad number ScriptWhy.Hex) × (bytes_of word.now ≡ None))) }
+        ⊎ ((no ≡ ScriptNo.Bad number ScriptWhy.Hex) × (spelled_bytes word.now ≡ None))) }
 {
     match hex::decode(alloc, word) {
         Ok(bytes) => Ok(bytes),

@@ -2,7 +2,7 @@
 
 ghost use Rattle.std.specs.Prelude.{◌≡◌, ◌≤◌, ◌<◌, [], length, slice_get, IfOk, IfErr, OnOk, Ok, Some};
 ghost use Rattle.pipe_ends.specs.Words.{words_of};
-ghost use Rattle.core_script.specs.Action.{IsInBounds, sectors_of};
+ghost use Rattle.core_script.specs.Action.{IsInBounds, sectors_in_all};
 ghost use Rattle.core_script.specs.ScriptText.{IsRefusedAt, IsScriptOrMemory, after_line, joined, script_of_text};
 
 use crate::action::Action;
@@ -104,7 +104,7 @@ impl Script {
     pub fn len(&self) -> u32
         ensures exact { result ≡ length self.now }
         ensures most { result ≤ 4096 }
-        ensures sectors { sectors_of self.now ≤ 65536 }
+        ensures sectors { sectors_in_all self.now ≤ 65536 }
     {
         self.actions.len() as u32
     }

@@ -5,7 +5,7 @@ use Rattle.nor_device.specs.declared.step.Step.{Step}
 use Rattle.nor_device.specs.declared.nor.StepEnd.{StepEnd}
 use Rattle.nor_device.specs.declared.nor.NorFault.{NorFault}
 use Rattle.nor_device.specs.Flash.{applied}
-use Rattle.nor_device.specs.Nor.{IsMade, IsLeftTorn, end_by}
+use Rattle.nor_device.specs.Nor.{IsMadeWhole, IsLeftTorn, end_by}
 use Rattle.nor_device.proofs.TornLaws.{torn_applied}
 use Rattle.crash_images.specs.Flaky.{FlakyMayEnd, FlakyMayTear, FlakyMayRefuse}
 use Rattle.crash_images.specs.declared.flaky.FlakySetting.{FlakySetting}
@@ -13,7 +13,7 @@ use Rattle.crash_images.specs.declared.flaky.FlakySetting.{FlakySetting}
 -- a step that was whole before its poll failed is one that may be left
 pub whole_torn : {S : Type 0} (may_tear : S → ℕ → List ℕ → Step → List ℕ → Type 0)
     (set : FlakySetting S) (n : ℕ) (running : Option Step) (old new : Option (List ℕ)) → 1 ≤ set.at
-    → IsMade running old new → IsLeftTorn (FlakyMayTear may_tear set n) running old new
+    → IsMadeWhole running old new → IsLeftTorn (FlakyMayTear may_tear set n) running old new
 whole_torn may_tear set n None old new some made = tt
 whole_torn may_tear set n (Some step) None new some made = tt
 whole_torn may_tear set n (Some step) (Some flash) new some made =

@@ -1,7 +1,7 @@
 //! A device over another, in which the call of a chosen number fails. All later calls work.
 
 ghost use Rattle.std.specs.Prelude.{◌≡◌, ◌↔◌, ◌+◌, ◌≤◌, ◌^◌, ◌||◌, true, false, None, Some, IsSome, IsErr, IsErrOf, IfErr, OnOk, OnErr, length};
-ghost use Rattle.nor_device.specs.Nor.{one_more, end_by, HasCause, KeepsSetting, KeepsSteps, IsIdleAsBefore, StillRuns, IsPart, IsMade, IsLeftTorn};
+ghost use Rattle.nor_device.specs.Nor.{one_more, end_by, HasCause, KeepsSetting, KeepsSteps, IsIdleAsBefore, StillRuns, IsPart, IsMadeWhole, IsLeftTorn};
 ghost use Rattle.nor_device.specs.Flash.{end_of, IsInOnePage};
 ghost use Rattle.crash_images.specs.Flaky.{flaky_device, flaky_setting, IsNext, CountsCall, StaysOff, FlakyMayEnd, FlakyMayTear, FlakyMayRefuse};
 
@@ -183,7 +183,7 @@ impl<D: Nor> Nor for FlakyNor<D> {
         ensures busy { result ≡ Ok Ready.Busy → StillRuns D.bytes D.running D.left self.old.inner self.new.inner }
         ensures ready { result ≡ Ok Ready.Ready → D.running self.new.inner ≡ None }
         ensures made { result ≡ Ok Ready.Ready
-            → IsMade (D.running self.old.inner) (D.bytes self.old.inner) (D.bytes self.new.inner) }
+            → IsMadeWhole (D.running self.old.inner) (D.bytes self.old.inner) (D.bytes self.new.inner) }
         ensures done { result ≡ Ok Ready.Ready
             → D.may_end (D.setting self.old.inner) (D.steps self.old.inner) StepEnd.Done }
         ensures refused { OnErr result (D.running self.new.inner ≡ None) }

@@ -40,7 +40,7 @@ use Rattle.ota_session.proofs.SessionLemmas.{steps_of_session}
 use Rattle.duo_run.specs.Both.{CanRunBoth, MayBegin, base_with, leg_base, rooms_of}
 use Rattle.duo_run.specs.Jobs.{CanDrive, IsAsLong, driver_room, length_for, most_moves_for, moves_for}
 use Rattle.duo_run.specs.Pages.{AreInPlace, application_pages, probe_in}
-use Rattle.duo_run.specs.Room.{bytes_of, entries_of, worker_room}
+use Rattle.duo_run.specs.Room.{bytes_in_all, entries_in_all, worker_room}
 use Rattle.duo_run.specs.Worker.{worker_steps}
 use Rattle.duo_run.specs.Works.{CanWork}
 use Rattle.duo_run.proofs.DriverRoomLemmas.{NeedsAtMost, entry_needs, session_needs}
@@ -219,7 +219,7 @@ module _ (rows : List Row) (script : List Action) (driver : ℕ) (layout : Place
 
   -- the other core
   works : (o : Own (Base (CutSetting (Unit {0})) Course) Did) (words : TableId) (c : ℕ)
-      → c ≢ driver → HasRoomIn base c [] (entries_of script) (bytes_of script)
+      → c ≢ driver → HasRoomIn base c [] (entries_in_all script) (bytes_in_all script)
       → IsFirst words c base o → CanWork part_of Grants part_after rows script o
   works o words c apart room is =
       let size = small in
@@ -247,7 +247,7 @@ module _ (rows : List Row) (script : List Action) (driver : ℕ) (layout : Place
         (subst (λ (c : ℕ). IsFirst words c base left) is first),
     works right words 1 (omega arith)
         (subst (λ (c : ℕ). HasRoomIn (leg_base rows script c layout purpose offset notes dev) 1 []
-        (entries_of script) (bytes_of script)) is
+        (entries_in_all script) (bytes_in_all script)) is
         (record { entries_fit = omega arith; bytes_fit = omega arith })) second,
   )
   can_both (suc zero) is two left right words first second = (
@@ -260,7 +260,7 @@ module _ (rows : List Row) (script : List Action) (driver : ℕ) (layout : Place
         (subst (λ (c : ℕ). IsFirst words c base right) is second),
     works left words 0 (omega arith)
         (subst (λ (c : ℕ). HasRoomIn (leg_base rows script c layout purpose offset notes dev) 0 []
-        (entries_of script) (bytes_of script)) is
+        (entries_in_all script) (bytes_in_all script)) is
         (record { entries_fit = omega arith; bytes_fit = omega arith })) first,
   )
   can_both (suc (suc d)) is two left right words first second = absurd (omega arith)

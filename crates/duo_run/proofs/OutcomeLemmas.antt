@@ -41,7 +41,7 @@ use Rattle.ota_session.proofs.ReadLemmas.{stands_beside, stands_good}
 use Rattle.power_cut.specs.declared.legs.LegEnd.{LegEnd}
 use Rattle.power_cut.specs.declared.legs.LegEnd.TheVariants as ends
 use Rattle.power_cut.specs.declared.legs.Ran.{Ran}
-use Rattle.power_cut.specs.Device.{HasEnd, IsRan, IsUnbroken, IsWholeEnd, MayEnd, MayRefuse, MayTear, MustRefuse, bytes_of, faults_of, is_off, setting_of}
+use Rattle.power_cut.specs.Device.{HasEnd, IsRan, IsUnbroken, IsWholeEnd, MayEnd, MayRefuse, MayTear, MustRefuse, told_bytes, faults_of, is_off, setting_of}
 use Rattle.power_cut.specs.Leg.{AnyGrants, IsAnyGood, IsLeg, LeavesBehind, any_after, any_duty, any_part, bus_behind, share_of}
 use Rattle.power_cut.specs.Update.{sealed_end, session_end, slot_size}
 use Rattle.power_cut.proofs.LegLemmas.{leg_of}
@@ -279,7 +279,7 @@ module _ (rows : List Row) (script : List Action) (driver : ℕ) (layout : Place
     long : length ran.dev.inner.bytes ≡ length dev.inner.bytes
     long =
         let told : closed.bus.dev.inner.bytes ≡ stands.flash = let e = stands.told in cc in
-        let good = stands_good bytes_of is_off (λ (d : CutDevice Ram). d.steps) faults_of setting_of
+        let good = stands_good told_bytes is_off (λ (d : CutDevice Ram). d.steps) faults_of setting_of
         MayEnd MayTear MayRefuse MustRefuse closed.bus base left.share right.share stands in
         ap length (sym closed.same.bytes) ∙ ap length told ∙ good.stands.same_length
 
@@ -307,7 +307,7 @@ module _ (rows : List Row) (script : List Action) (driver : ℕ) (layout : Place
     ran_is = closed.tells dev (end_for layout purpose) begins.ready refl long
         (sym closed.same.setting ∙ stands.setting_is) told (end_whole layout purpose) whole
 
-    opening : IsBaseOf bytes_of is_off (λ (d : CutDevice Ram). d.steps) faults_of setting_of base
+    opening : IsBaseOf told_bytes is_off (λ (d : CutDevice Ram). d.steps) faults_of setting_of base
         dev
         base.map (empty_journal base.left_room base.right_room) base.duty
     opening = record {
@@ -333,7 +333,7 @@ module _ (rows : List Row) (script : List Action) (driver : ℕ) (layout : Place
 
     behind : StandsMade stands.stood.log (free_base any_duty base)
     behind before later flash split all leaves =
-        free_moment_stands bytes_of is_off (λ (d : CutDevice Ram). d.steps) faults_of setting_of
+        free_moment_stands told_bytes is_off (λ (d : CutDevice Ram). d.steps) faults_of setting_of
         MayEnd MayTear MayRefuse MustRefuse any_duty closed.bus base left.share right.share stands
         before later flash split all leaves
 
@@ -434,7 +434,7 @@ module _ (rows : List Row) (script : List Action) (driver : ℕ) (layout : Place
         → StandsBeside dev.inner.bytes (steps_for layout purpose) [] (open_addresses rows)
         ran.dev.inner.bytes
     done is =
-        stands_beside bytes_of is_off (λ (d : CutDevice Ram). d.steps) faults_of setting_of MayEnd
+        stands_beside told_bytes is_off (λ (d : CutDevice Ram). d.steps) faults_of setting_of MayEnd
         MayTear MayRefuse MustRefuse closed.bus base driver
         (share_of driver left.share right.share) (share_of (1 - driver) left.share right.share)
         (steps_for layout purpose) [] ran.dev.inner.bytes two (ordered driver two) refl

@@ -12,7 +12,7 @@ use Rattle.cache_gate.specs.Own.{Own}
 use Rattle.flash_ops.specs.declared.pace.Point.{Point}
 use Rattle.flash_ops.specs.declared.pace.Point.TheVariants.{WorkerAct, WorkerActDone}
 use Rattle.flash_ops.specs.declared.refusal.StepNo.{StepNo}
-use Rattle.flash_ops.specs.Told.{ToldOf, counted}
+use Rattle.flash_ops.specs.Told.{ToldOf, count_behind}
 use Rattle.ota_session.specs.declared.refusal.EndNo.{EndNo}
 use Rattle.ota_session.specs.declared.refusal.EndNo.TheVariants as refusals
 use Rattle.ota_session.specs.declared.refusal.WriteNo.{WriteNo}
@@ -53,24 +53,24 @@ told_all told i n all acts k some within = acts k some (omega (arith, all, withi
 
 -- the pieces that are left are one fewer behind a piece
 pub piece_counts : (before now whole : ℕ) (rest later : List ℕ) (n : ℕ) → later ≡ drop 4096 rest
-    → 1 ≤ length rest → n ≡ 1 → now ≡ counted before n
-    → counted before (pieces_of (length rest)) ≡ whole
-    → counted now (pieces_of (length later)) ≡ whole
+    → 1 ≤ length rest → n ≡ 1 → now ≡ count_behind before n
+    → count_behind before (pieces_of (length rest)) ≡ whole
+    → count_behind now (pieces_of (length later)) ≡ whole
 piece_counts before now whole rest later n back some one is left =
     let size : length later ≡ length (drop 4096 rest) = ap length back in
     let cut = length-drop 4096 rest in
     let more : pieces_of (length rest) ≡ pieces_of (length later) + 1 = omega arith in
-    ap (λ (m : ℕ). counted m (pieces_of (length later))) (is ∙ ap (counted before) one)
+    ap (λ (m : ℕ). count_behind m (pieces_of (length later))) (is ∙ ap (count_behind before) one)
     ∙ counted_on before 1 (pieces_of (length later)) (pieces_of (length rest)) more ∙ left
 
 -- none is left
 pub pieces_counted : (now whole : ℕ) (rest : List ℕ) → length rest ≡ 0
-    → counted now (pieces_of (length rest)) ≡ whole → now ≡ whole
+    → count_behind now (pieces_of (length rest)) ≡ whole → now ≡ whole
 pieces_counted now whole rest none left =
     let gone : pieces_of (length rest) ≡ 0 = omega (arith, none) in
-    sym (ap (counted now) gone) ∙ left
+    sym (ap (count_behind now) gone) ∙ left
 
--- the first byte of all is refused before anything was counted
+-- the first byte of all is refused before anything was count_behind
 pub uncounted : (n first before now : ℕ) (refused_so : WriteNo)
     → ((byte : ℕ) → refused_so ≡ writes.FirstByte byte → before ≡ first)
     → HasCountedSome n refused_so before now → HasCountedNone refused_so first now
@@ -84,12 +84,12 @@ module _ {S : Type 0} (w : Writing (Base S Course)) where
   -- the image is not announced
   pub not_sealed_ops : (image : List ℕ) (refused_so : EndNo) (o : Own (Base S Course) Did) (n : ℕ)
       → IsNotVerified image w refused_so o
-      → IfOk (unsealed_as refused_so) (λ end. n ≡ counted n (closed_ops w.target.size image))
+      → IfOk (unsealed_as refused_so) (λ end. n ≡ count_behind n (closed_ops w.target.size image))
   not_sealed_ops [] refusals.Empty o n x = refl
   not_sealed_ops (byte ∷ bytes) refusals.Empty o n x = let refused_so = x.0 in absurd cc
   not_sealed_ops [] (refusals.Bad why) o n x = absurd (x.0 refl)
   not_sealed_ops (byte ∷ bytes) (refusals.Bad why) o n x =
-      sym (ap (λ (found : Option BadImage). counted n (entry_ops found)) x.1)
+      sym (ap (λ (found : Option BadImage). count_behind n (entry_ops found)) x.1)
   not_sealed_ops image refusals.Device o n x = tt
   not_sealed_ops image refusals.Cut o n x = tt
 
@@ -128,30 +128,30 @@ module _ (layout : Places) (aim : Aim) (image : List ℕ) where
   -- the image is not written to its end
   pub unwritten_ops : {S : Type 0} (probe : Option ℕ) (w : Writing (Base S Course))
       (refused_so : WriteNo) (o : Own (Base S Course) Did) (before begun now : ℕ)
-      → begun ≡ counted before (begin_periods aim)
+      → begun ≡ count_behind before (begin_periods aim)
       → IsNotAllWritten probe image w refused_so o → HasCountedNone refused_so begun now
-      → IfOk (unwritten_as refused_so) (λ end. now ≡ counted before (session_ops layout aim image))
+      → IfOk (unwritten_as refused_so) (λ end. now ≡ count_behind before (session_ops layout aim image))
   unwritten_ops probe w (writes.FirstByte byte) o before begun now is x none =
       let no_more : begin_periods aim ≡ session_ops layout aim image =
       let gone = wrong_ops size image byte x.0 in omega arith in
-      none ∙ is ∙ ap (counted before) no_more
+      none ∙ is ∙ ap (count_behind before) no_more
   unwritten_ops probe w writes.Device o before begun now is x none = tt
   unwritten_ops probe w writes.Cut o before begun now is x none = tt
 
   -- it is
   pub session_counts : (before begun written now closes : ℕ) (r : Result LegEnd StepNo)
-      → wrong_byte 0 image ≡ None → begun ≡ counted before (begin_periods aim)
-      → written ≡ counted begun (pieces_of (length image)) → closes ≡ closed_ops size image
-      → IfOk r (λ end. now ≡ counted written closes)
-      → IfOk r (λ end. now ≡ counted before (session_ops layout aim image))
+      → wrong_byte 0 image ≡ None → begun ≡ count_behind before (begin_periods aim)
+      → written ≡ count_behind begun (pieces_of (length image)) → closes ≡ closed_ops size image
+      → IfOk r (λ end. now ≡ count_behind written closes)
+      → IfOk r (λ end. now ≡ count_behind before (session_ops layout aim image))
   session_counts before begun written now closes (Err why) right is next closing last = tt
   session_counts before begun written now closes (Ok end) right is next closing last =
       let all : session_ops layout aim image
       ≡ closes + (pieces_of (length image) + begin_periods aim) =
       let sum = right_ops size image right in omega (arith, closing) in
       last
-      ∙ ap (λ (m : ℕ). counted m closes) (next
-      ∙ ap (λ (m : ℕ). counted m (pieces_of (length image))) is
+      ∙ ap (λ (m : ℕ). count_behind m closes) (next
+      ∙ ap (λ (m : ℕ). count_behind m (pieces_of (length image))) is
       ∙ counted_on before (begin_periods aim) (pieces_of (length image))
       (pieces_of (length image) + begin_periods aim) refl)
       ∙ counted_on before (pieces_of (length image) + begin_periods aim) closes
@@ -160,10 +160,10 @@ module _ (layout : Places) (aim : Aim) (image : List ℕ) where
 -- ---- a leg
 
 -- a count that is small is the number itself
-counted_small : (n : ℕ) → n < 2 ^ 32 → counted 0 n ≡ n
+counted_small : (n : ℕ) → n < 2 ^ 32 → count_behind 0 n ≡ n
 counted_small zero small = refl
 counted_small (suc n) small =
-    let before : counted 0 n ≡ n = counted_small n (omega (arith, small)) in
+    let before : count_behind 0 n ≡ n = counted_small n (omega (arith, small)) in
     ap (λ (m : ℕ). min (m + 1) (2 ^ 32 - 1)) before ∙ omega (arith, small)
 
 entry_few : (found : Option BadImage) → entry_ops found ≤ 2

@@ -3,8 +3,8 @@ use Rattle.std.proofs.Common.{◌≡◌, ℕ, ◌+◌, ◌*◌, ◌≤◌, List,
 use Rattle.std.specs.List.{slice_get}
 use Rattle.core_script.specs.declared.action.Action.{Action}
 use Rattle.core_script.specs.declared.action.Action.TheVariants.{Fetch, Mask, Irq, Map, Unmap, Write, Erase}
-use Rattle.core_script.specs.Action.{IsInBounds, sectors_in, sectors_of}
-use Rattle.duo_run.specs.Room.{entries_in, bytes_in, entries_of, bytes_of}
+use Rattle.core_script.specs.Action.{IsInBounds, sectors_in, sectors_in_all}
+use Rattle.duo_run.specs.Room.{entries_in, bytes_in, entries_in_all, bytes_in_all}
 use Rattle.duo_run.proofs.WorkLemmas.{drop_at}
 
 -- an action has three entries at most, and two for each sector
@@ -18,7 +18,7 @@ entries_few (Write label offset bytes) = omega arith
 entries_few (Erase label offset len) = omega arith
 
 pub entries_most : (script : List Action)
-    → entries_of script ≤ 3 * length script + 2 * sectors_of script
+    → entries_in_all script ≤ 3 * length script + 2 * sectors_in_all script
 entries_most [] = omega arith
 entries_most (action ∷ later) =
     let a = entries_few action in
@@ -36,8 +36,8 @@ bytes_few (Erase label offset len) bounds = omega arith
 
 -- the room of so many actions of a script, with that of the others
 pub record IsCounted (script : List Action) (i entries bytes : ℕ) : Type 0 where
-  pub entries_are : entries + entries_of (drop i script) ≡ entries_of script
-  pub bytes_are : bytes + bytes_of (drop i script) ≡ bytes_of script
+  pub entries_are : entries + entries_in_all (drop i script) ≡ entries_in_all script
+  pub bytes_are : bytes + bytes_in_all (drop i script) ≡ bytes_in_all script
   pub bytes_most : bytes ≤ 256 * i
 
 pub counted_first : (script : List Action) → IsCounted script 0 0 0
@@ -49,8 +49,8 @@ pub counted_next : (script : List Action) (i entries bytes : ℕ) (action : Acti
     → IsCounted script (i + 1) (entries + entries_in action) (bytes + bytes_in action)
 counted_next script i entries bytes action is bounds c =
     let here = drop_at script i action is in
-    let a = ap entries_of here in
-    let b = ap bytes_of here in
+    let a = ap entries_in_all here in
+    let b = ap bytes_in_all here in
     let few = bytes_few action bounds in
     let x = c.entries_are in
     let y = c.bytes_are in

@@ -29,7 +29,7 @@ use Rattle.power_cut.specs.declared.legs.Leg.{Leg}
 use Rattle.power_cut.specs.declared.legs.LegEnd.{LegEnd}
 use Rattle.power_cut.specs.declared.legs.LegEnd.TheVariants.{Done}
 use Rattle.power_cut.specs.declared.legs.Ran.{Ran}
-use Rattle.power_cut.specs.Device.{IsRan, IsReady, IsUnbroken, IsWholeEnd, MayEnd, MayRefuse, MayTear, MustRefuse, bytes_of, faults_of, is_off, setting_of}
+use Rattle.power_cut.specs.Device.{IsRan, IsReady, IsUnbroken, IsWholeEnd, MayEnd, MayRefuse, MayTear, MustRefuse, told_bytes, faults_of, is_off, setting_of}
 use Rattle.power_cut.specs.Leg.{IsLeg, IsSameFlash, LeavesBehind}
 use Rattle.duo_run.specs.Jobs.{CanDrive, DriverShare, HasDriven, HoldsFor, driver_room, end_for, length_for}
 use Rattle.duo_run.specs.Pages.{AreInPlace, application_pages, probe_in}
@@ -117,7 +117,7 @@ whole_by (Err why) = Done
 -- the bus of a leg stands for its base and what core 0 and core 1 did
 abbrev pub StandsFor : Hub (CutDevice Ram) Course → Base (CutSetting (Unit {0})) Course → List Did
     → List Did → Type 0
-StandsFor = Stands bytes_of is_off (λ dev. dev.steps) faults_of setting_of MayEnd MayTear MayRefuse
+StandsFor = Stands told_bytes is_off (λ dev. dev.steps) faults_of setting_of MayEnd MayTear MayRefuse
     MustRefuse part_of Grants course_after IsGood
 
 -- what a device that came back tells of the leg, whatever it began with

@@ -8,7 +8,7 @@ use Rattle.boot_run.specs.declared.aims.Aim.{Aim}
 use Rattle.flash_ops.specs.declared.pace.Point.{Point}
 use Rattle.flash_ops.specs.declared.pace.Point.TheVariants.{WorkerAct, WorkerActDone}
 use Rattle.flash_ops.specs.declared.refusal.StepNo.{StepNo}
-use Rattle.flash_ops.specs.Told.{ToldOf, counted}
+use Rattle.flash_ops.specs.Told.{ToldOf, count_behind}
 use Rattle.ota_session.specs.declared.refusal.WriteNo.{WriteNo}
 use Rattle.ota_session.specs.declared.refusal.WriteNo.TheVariants as writes
 use Rattle.ota_session.specs.Course.{Confirm, Install, Purpose}
@@ -52,7 +52,7 @@ abbrev pub ops_for : Places → Purpose → ℕ
 ops_for layout (Install aim image) = session_ops layout aim image
 ops_for layout (Confirm write) = 2
 
--- the quiet periods that a write of all bytes counted, where it was refused: none for the first byte
+-- the quiet periods that a write of all bytes count_behind, where it was refused: none for the first byte
 -- of all
 abbrev pub HasCountedNone : WriteNo → ℕ → ℕ → Type 0
 HasCountedNone (writes.FirstByte byte) before now = now ≡ before
@@ -67,7 +67,7 @@ ToldOfActs told n = (k : ℕ) → 1 ≤ k → k ≤ n → told (WorkerAct k) × 
 
 -- a driver whose device refused nothing told of so many quiet periods
 abbrev pub TellsOps : (Point → Type 0) → ℕ → Result LegEnd StepNo → Type 0
-TellsOps told n r = IfOk r (λ end. ToldOf told 0 (counted 0 n))
+TellsOps told n r = IfOk r (λ end. ToldOf told 0 (count_behind 0 n))
 
 -- the other core, whose device refused nothing, told of so many actions
 abbrev pub TellsActs : (Point → Type 0) → ℕ → Result (Unit {0}) StepNo → Type 0

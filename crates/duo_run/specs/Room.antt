@@ -27,15 +27,15 @@ bytes_in (Write label offset bytes) = 0
 bytes_in (Erase label offset len) = 0
 
 -- the entries of all of them
-abbrev pub entries_of : List Action → ℕ
-entries_of [] = 0
-entries_of (action ∷ later) = entries_in action + entries_of later
+abbrev pub entries_in_all : List Action → ℕ
+entries_in_all [] = 0
+entries_in_all (action ∷ later) = entries_in action + entries_in_all later
 
 -- the bytes
-abbrev pub bytes_of : List Action → ℕ
-bytes_of [] = 0
-bytes_of (action ∷ later) = bytes_in action + bytes_of later
+abbrev pub bytes_in_all : List Action → ℕ
+bytes_in_all [] = 0
+bytes_in_all (action ∷ later) = bytes_in action + bytes_in_all later
 
 -- the room of a script
 abbrev pub worker_room : List Action → Room
-worker_room script = record { entries = entries_of script; bytes = bytes_of script }
+worker_room script = record { entries = entries_in_all script; bytes = bytes_in_all script }

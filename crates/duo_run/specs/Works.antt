@@ -11,7 +11,7 @@ use Rattle.bus_hub.specs.declared.did.Did.{Did}
 use Rattle.cache_gate.specs.Own.{Own, OnBase, HasRoom, Adds, set_to}
 use Rattle.flash_ops.specs.Asked.{MayMakeAll}
 use Rattle.duo_run.specs.Worker.{Acted, ShareFrom, action_steps, regs_after, regs_by, worker_steps}
-use Rattle.duo_run.specs.Room.{entries_in, bytes_in, entries_of, bytes_of}
+use Rattle.duo_run.specs.Room.{entries_in, bytes_in, entries_in_all, bytes_in_all}
 
 -- the rows of a table obey its rules in the flash of the base
 pub record FitsBase {S K : Type 0} (rows : List Row) (b : Base S K) : Type 0 where
@@ -33,7 +33,7 @@ module _ {S K P : Type 0} (part : K → ℕ → P) (grants : P → Step → Type
       : Type 0 where
     pub mask : o.regs.mask ≤ 3
     pub base : OnBase o.base (FitsBase rows)
-    pub room : HasRoom o.base o.core o.share (entries_of script) (bytes_of script)
+    pub room : HasRoom o.base o.core o.share (entries_in_all script) (bytes_in_all script)
     pub may : MayMakeAll part grants moved o.base o.core o.share (worker_steps rows script)
 
 -- the core did an action of this number, by whether the device refused, and nothing else

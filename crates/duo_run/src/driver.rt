@@ -4,7 +4,7 @@ ghost use Rattle.std.specs.Prelude.{◌≡◌, ◌+◌, ◌≤◌, [], Ok, Err, 
 ghost use Rattle.bus_hub.specs.declared.did.Base.{Base};
 ghost use Rattle.flash_ops.specs.Asked.{CanLook, HasRoomFor};
 ghost use Rattle.flash_ops.specs.Moves.{HasRun, write_moves};
-ghost use Rattle.flash_ops.specs.Told.{ToldOf, counted};
+ghost use Rattle.flash_ops.specs.Told.{ToldOf, count_behind};
 ghost use Rattle.ota_session.specs.Stages.{IsToConfirm, IsWriting, confirm_moves, entry_moves, image_of, session_moves};
 ghost use Rattle.power_cut.specs.declared.legs.LegEnd.TheVariants.{Done};
 ghost use Rattle.power_cut.specs.Update.{session_end, slot_size};
@@ -45,7 +45,7 @@ pub(crate) fn install<'w, 'a, R: Wait, D: Crash, P: Pace>(
     ensures end { IfOk result.1 (λ end.
         end ≡ session_end (slot_size layout.now aim.now.slot) image.now) }
     ensures ops { IfOk result.1 (λ end.
-        beat.new.ops ≡ counted beat.old.ops (session_ops layout.now aim.now image.now)) }
+        beat.new.ops ≡ count_behind beat.old.ops (session_ops layout.now aim.now image.now)) }
     ensures told { ToldOf (P.told beat.old.pace.now) beat.old.ops beat.new.ops }
 {
     match begin(rt, core, beat, layout, aim) {
@@ -77,7 +77,7 @@ fn write_all<'w, 'a, R: Wait, D: Crash, P: Pace>(
     ensures probe { beat.new.probe ≡ beat.old.probe }
     ensures pace { beat.new.pace ≡ beat.old.pace }
     ensures ops { MatchResult result
-        (λ _. beat.new.ops ≡ counted beat.old.ops (pieces_of (length image.now)))
+        (λ _. beat.new.ops ≡ count_behind beat.old.ops (pieces_of (length image.now)))
         (λ back. HasCountedNone back.no beat.old.ops beat.new.ops) }
     ensures told { ToldOf (P.told beat.old.pace.now) beat.old.ops beat.new.ops }
 {
@@ -133,7 +133,7 @@ fn seal<'w, 'a, R: Wait, D: Crash, P: Pace>(
         (ended_as result.1) ota.entry.core result.0 }
     ensures end { IfOk result.1 (λ end.
         end ≡ closed_end ota.entry.target.size (image_of ota.entry.core.base)) }
-    ensures ops { IfOk result.1 (λ end. beat.new.ops ≡ counted beat.old.ops
+    ensures ops { IfOk result.1 (λ end. beat.new.ops ≡ count_behind beat.old.ops
         (closed_ops ota.entry.target.size (image_of ota.entry.core.base))) }
     ensures told { ToldOf (P.told beat.old.pace.now) beat.old.ops beat.new.ops }
 {
@@ -174,7 +174,7 @@ pub(crate) fn affirm<'w, 'a, R: Wait, D: Crash, P: Pace>(
     ensures ran { HasRun 0 (confirm_moves layout.now rewrite.now beat.old.probe)
         (ended_as result.1) core.entry result.0 }
     ensures end { IfOk result.1 (λ end. end ≡ Done) }
-    ensures ops { IfOk result.1 (λ end. beat.new.ops ≡ counted beat.old.ops 2) }
+    ensures ops { IfOk result.1 (λ end. beat.new.ops ≡ count_behind beat.old.ops 2) }
     ensures told { ToldOf (P.told beat.old.pace.now) beat.old.ops beat.new.ops }
 {
     match confirm(rt, core, beat, layout, rewrite) {

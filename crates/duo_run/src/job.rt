@@ -4,7 +4,7 @@ ghost use Rattle.std.specs.Prelude.{◌≡◌, ◌≤◌, ◌<◌, ◌^◌, IfOk
 ghost use Rattle.bus_hub.specs.declared.did.Base.{Base};
 ghost use Rattle.partition_table.specs.Layout.{Places, layout_of};
 ghost use Rattle.ota_session.specs.Course.{course_from};
-ghost use Rattle.flash_ops.specs.Told.{ToldOf, counted};
+ghost use Rattle.flash_ops.specs.Told.{ToldOf, count_behind};
 ghost use Rattle.duo_run.specs.Paced.{TellsOps, ops_for};
 ghost use Rattle.duo_run.specs.Jobs.{CanDrive, HasDriven, IsAsLong, driver_room, length_for, purpose_of};
 
@@ -71,7 +71,7 @@ fn drive<'w, 'a, R: Wait, D: Crash, P: Pace>(
     ensures driven { HasDriven layout.now (purpose_of job.now) beat.old.probe result.1
         core.entry result.0 }
     ensures ops { IfOk result.1 (λ end.
-        beat.new.ops ≡ counted beat.old.ops (ops_for layout.now (purpose_of job.now))) }
+        beat.new.ops ≡ count_behind beat.old.ops (ops_for layout.now (purpose_of job.now))) }
     ensures told { ToldOf (P.told beat.old.pace.now) beat.old.ops beat.new.ops }
 {
     match job {

@@ -14,7 +14,7 @@ use Rattle.cache_gate.specs.Own.{Own, Keeps, HasRoom, HasRoomIn, OnBase, IsFirst
 use Rattle.cache_gate.specs.Rounds.{Spends}
 use Rattle.cache_gate.proofs.Rooms.{room_added, room_left}
 use Rattle.flash_ops.specs.Moves.{Move, Make, Look, Ask, Stops, Ran, HasRun, looks, steps_of, entries_for, bytes_for}
-use Rattle.flash_ops.specs.Asked.{GrantsAll, MayMakeAll, HasRoomFor, CanLook, CanRun}
+use Rattle.flash_ops.specs.Asked.{GrantsAll, MayMakeAll, HasRoomFor, CanLook, CanMakeMoves}
 use Rattle.flash_ops.proofs.Runs.{base_same, steps_of-append, entries_for-append, bytes_for-append, made_more, needs_follows, byte_needs_follows}
 
 module _ {P : Type 0} (grants : P → Step → Type 0) (moved : P → Step → P) where
@@ -78,7 +78,7 @@ module _ {S K P : Type 0} (part : K → ℕ → P) (grants : P → Step → Type
 
     -- of the first part
     pub can_first : (a b : List Move) (probe : Option ℕ) (o : Own (Base S K) Did)
-        → CanRun part grants moved (a ++ b) probe o → CanRun part grants moved a probe o
+        → CanMakeMoves part grants moved (a ++ b) probe o → CanMakeMoves part grants moved a probe o
     can_first a b probe o can = record {
       may = may_first o.base o.core o.share (steps_of a) (steps_of b)
           (subst (λ (s : List Step). MayMakeAll part grants moved o.base o.core o.share s)
@@ -89,10 +89,10 @@ module _ {S K P : Type 0} (part : K → ℕ → P) (grants : P → Step → Type
 
     -- of the rest, once the first part was made
     pub can_then : (k : ℕ) (a b : List Move) (probe : Option ℕ) (o p : Own (Base S K) Did)
-        → CanRun part grants moved (a ++ b) probe o → HasRun k a (Ok tt) o p
-        → CanRun part grants moved b probe p
+        → CanMakeMoves part grants moved (a ++ b) probe o → HasRun k a (Ok tt) o p
+        → CanMakeMoves part grants moved b probe p
     can_then k a b probe o p can run =
-        subst (λ (z : Own (Base S K) Did). CanRun part grants moved b probe z) (sym run.adds.is)
+        subst (λ (z : Own (Base S K) Did). CanMakeMoves part grants moved b probe z) (sym run.adds.is)
         (record {
           may = may_then o.base o.core o.share run.items (steps_of a) (steps_of b)
               (made_more k o.regs a o.share run.items run.ran)
@@ -106,20 +106,20 @@ module _ {S K P : Type 0} (part : K → ℕ → P) (grants : P → Step → Type
 
     -- beside walks that add nothing
     pub can_kept : (ms : List Move) (probe : Option ℕ) (o p : Own (Base S K) Did) → Keeps o p
-        → CanRun part grants moved ms probe o → CanRun part grants moved ms probe p
+        → CanMakeMoves part grants moved ms probe o → CanMakeMoves part grants moved ms probe p
     can_kept ms probe o p x can =
-        subst (λ (z : Own (Base S K) Did). CanRun part grants moved ms probe z) (sym x.is)
+        subst (λ (z : Own (Base S K) Did). CanMakeMoves part grants moved ms probe z) (sym x.is)
         (record { may = can.may; room = can.room; look = can.look })
 
     -- with no look
     pub can_blind : (ms : List Move) (probe : Option ℕ) (o : Own (Base S K) Did)
-        → CanRun part grants moved ms probe o → CanRun part grants moved ms None o
+        → CanMakeMoves part grants moved ms probe o → CanMakeMoves part grants moved ms None o
     can_blind ms probe o can = record { may = can.may; room = can.room; look = tt }
 
     -- room for the look behind a quiet period
     pub room_behind : (k : ℕ) (ms : List Move) (probe looked : Option ℕ)
         (made : Result (Unit {0}) NorFault) (o a b c : Own (Base S K) Did) → looked ≡ probe
-        → CanRun part grants moved (ms ++ looks probe) probe o → Keeps o a → HasRun k ms made a b
+        → CanMakeMoves part grants moved (ms ++ looks probe) probe o → Keeps o a → HasRun k ms made a b
         → Keeps b c → OnOk made (HasRoomFor c.base c.core c.share (looks looked))
     room_behind k ms probe looked (Ok u) o a b c same can x run y =
         subst (λ (p : Option ℕ). HasRoomFor c.base c.core c.share (looks p)) (sym same)
@@ -231,7 +231,7 @@ pub can_each : {S K P : Type 0} (part : K → ℕ → P) (grants : P → Step �
     (moved : P → Step → P) → ((p : P) (step : Step) → grants p step) → (ms : List Move)
     (probe : Option ℕ) (o : Own (Base S K) Did) (n m : ℕ) → HasRoom o.base o.core o.share n m
     → entries_for ms ≤ n → bytes_for ms ≤ m → CanLook o.base o.regs probe
-    → CanRun part grants moved ms probe o
+    → CanMakeMoves part grants moved ms probe o
 can_each {S} {K} {P} part grants moved each ms probe o n m room few small look = record {
   may = may_each grants moved part each o.base o.core o.share (steps_of ms)
       (λ b. HasRoomIn b o.core o.share n m) room;

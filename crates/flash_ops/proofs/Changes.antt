@@ -24,7 +24,7 @@ use Rattle.flash_ops.specs.declared.refusal.StepNo.TheVariants.{Device, Cut}
 use Rattle.flash_ops.specs.declared.refusal.OpNo.{OpNo}
 use Rattle.flash_ops.specs.declared.refusal.OpNo.TheVariants as ops
 use Rattle.flash_ops.specs.Moves.{Move, HasRun, makes}
-use Rattle.flash_ops.specs.Asked.{CanChange, CanRun}
+use Rattle.flash_ops.specs.Asked.{CanChange, CanMakeMoves}
 use Rattle.flash_ops.specs.Told.{HasChanged, barred_by, fault_of, unbarred}
 use Rattle.flash_ops.proofs.Runs.{bytes_for_makes, entries_for_makes}
 use Rattle.flash_ops.proofs.Can.{room_less, run_spends}
@@ -83,7 +83,7 @@ module _ {S K P : Type 0} (part : K → ℕ → P) (grants : P → Step → Type
     pub can_write_part : (flash : ℕ) (rows : List Row) (label : List ℕ) (offset : ℕ)
         (bytes : List ℕ) (o : Own (Base S K) Did) → FitsFlash flash rows → flash < 2 ^ 32
         → IsInside o.base flash
-        → CanRun part grants moved (makes (part_write_steps rows label offset bytes)) None o
+        → CanMakeMoves part grants moved (makes (part_write_steps rows label offset bytes)) None o
         → IfOk (write_checked rows label offset (length bytes)) (λ row.
         CanChange part grants moved (row.offset + offset) (length bytes)
         (part_write_steps rows label offset bytes) o)
@@ -99,7 +99,7 @@ module _ {S K P : Type 0} (part : K → ℕ → P) (grants : P → Step → Type
 
     pub can_erase_part : (flash : ℕ) (rows : List Row) (label : List ℕ) (offset len : ℕ)
         (o : Own (Base S K) Did) → FitsFlash flash rows → flash < 2 ^ 32 → IsInside o.base flash
-        → CanRun part grants moved (makes (part_erase_steps rows label offset len)) None o
+        → CanMakeMoves part grants moved (makes (part_erase_steps rows label offset len)) None o
         → IfOk (erase_checked rows label offset len) (λ row.
         CanChange part grants moved (row.offset + offset) len
         (part_erase_steps rows label offset len) o)

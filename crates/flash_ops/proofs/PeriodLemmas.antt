@@ -17,7 +17,7 @@ use Rattle.flash_ops.specs.declared.refusal.StepNo.{StepNo}
 use Rattle.flash_ops.specs.declared.refusal.OpNo.{OpNo}
 use Rattle.flash_ops.specs.declared.refusal.StepNo.TheVariants.{Device, Cut}
 use Rattle.flash_ops.specs.Told.{LooksBehind, fault_of, unbarred}
-use Rattle.flash_ops.specs.Periods.{steps_shown, period_shown, periods_shown, if_some, by_sixteens, write_periods, erase_periods, read_periods, BreaksOff, HasPeriods, HasFewSteps, HasShownSteps, HasFewInPeriod, HasPeriod}
+use Rattle.flash_ops.specs.Periods.{steps_shown, period_shown, periods_shown, if_some, by_sixteens, write_periods, erase_periods, read_periods, BreaksOffWithin, HasPeriods, HasFewSteps, HasShownSteps, HasFewInPeriod, HasPeriod}
 use Rattle.flash_ops.proofs.Pieces.{all_pages, few_pages}
 
 -- ---- what shows, one part after the other
@@ -167,7 +167,7 @@ pub record Passed {B D : Type 0} (whole left : List ℕ) (o c : Own B D) : Type 
   pub shows : HasShown (periods_shown front) o c
 
 breaks_off : (front rest : List ℕ) (n m : ℕ) → m ≤ n
-    → BreaksOff (front ++ n ∷ rest) (front ++ m ∷ [])
+    → BreaksOffWithin (front ++ n ∷ rest) (front ++ m ∷ [])
 breaks_off [] rest n m within = inl (within, refl)
 breaks_off (x ∷ front) rest n m within = inr (refl, breaks_off front rest n m within)
 
@@ -199,7 +199,7 @@ module _ {B D : Type 0} where
       let other : Ok tt ≡ Err why = refused in absurd cc
   passed_stops whole left rest n (Err cause) why o c d refused is x y = record {
     made = x.front ++ y.many ∷ [];
-    by_answer = subst (λ (l : List ℕ). BreaksOff l (x.front ++ y.many ∷ []))
+    by_answer = subst (λ (l : List ℕ). BreaksOffWithin l (x.front ++ y.many ∷ []))
         (ap (λ (l : List ℕ). x.front ++ l) (sym is) ∙ x.whole_is)
         (breaks_off x.front rest n y.many y.within);
     shows = behind_front x.front y.many o c d x.shows y.shows;

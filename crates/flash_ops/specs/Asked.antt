@@ -34,7 +34,7 @@ module _ {S K : Type 0} where
 
 -- the core can make the moves: its duty allows the steps, it has room for what they add, and it can
 -- look at the probe
-pub record CanRun {S K P : Type 0} (part : K → ℕ → P) (grants : P → Step → Type 0)
+pub record CanMakeMoves {S K P : Type 0} (part : K → ℕ → P) (grants : P → Step → Type 0)
     (moved : P → Step → P) (moves : List Move) (probe : Option ℕ) (o : Own (Base S K) Did)
     : Type 0 where
   pub may : MayMakeAll part grants moved o.base o.core o.share (steps_of moves)
@@ -47,4 +47,4 @@ pub record CanChange {S K P : Type 0} (part : K → ℕ → P) (grants : P → S
     : Type 0 where
   pub inside : IsInside o.base (at + len)
   pub small : at + len < 2 ^ 32
-  pub can : CanRun part grants moved (makes steps) None o
+  pub can : CanMakeMoves part grants moved (makes steps) None o

@@ -41,16 +41,16 @@ unfoldable pub read_periods : ℕ → List ℕ
 read_periods len = replicate ((len + 4095) / 4096) 0
 
 -- a first part of the periods was made, of the last of which fewer steps may have been begun
-abbrev pub BreaksOff : List ℕ → List ℕ → Type 0
-BreaksOff [] made = ⊥
-BreaksOff (n ∷ periods) [] = ⊥
-BreaksOff (n ∷ periods) (m ∷ made) =
-    ((m ≤ n) × (made ≡ [])) ⊎ ((m ≡ n) × BreaksOff periods made)
+abbrev pub BreaksOffWithin : List ℕ → List ℕ → Type 0
+BreaksOffWithin [] made = ⊥
+BreaksOffWithin (n ∷ periods) [] = ⊥
+BreaksOffWithin (n ∷ periods) (m ∷ made) =
+    ((m ≤ n) × (made ≡ [])) ⊎ ((m ≡ n) × BreaksOffWithin periods made)
 
 -- which periods were made, by the answer: all; or a first part, where it was refused
 abbrev pub AreMade : {E : Type 0} → List ℕ → Result (Unit {0}) E → List ℕ → Type 0
 AreMade periods (Ok _) made = made ≡ periods
-AreMade periods (Err why) made = BreaksOff periods made
+AreMade periods (Err why) made = BreaksOffWithin periods made
 
 -- exactly these quiet periods show of what the core did, or a first part of them by the answer: in each the
 -- lock was taken once and given back once, with so many steps between

@@ -57,22 +57,22 @@ HasChanged k steps (Err ops.Device) o o' = HasRun k (makes steps) (Err Failed) o
 HasChanged k steps (Err ops.Cut) o o' = HasRun k (makes steps) (Err Off) o o'
 
 -- a count after so many more, which stands still at the end of its type
-abbrev pub counted : ℕ → ℕ → ℕ
-counted count zero = count
-counted count (suc n) = min (counted count n + 1) (2 ^ 32 - 1)
+abbrev pub count_behind : ℕ → ℕ → ℕ
+count_behind count zero = count
+count_behind count (suc n) = min (count_behind count n + 1) (2 ^ 32 - 1)
 
 -- a count that rose by at most so many
 pub record IsCountedUpTo (most before now : ℕ) : Type 0 where
   pub many : ℕ
   pub within : many ≤ most
-  pub is : now ≡ counted before many
+  pub is : now ≡ count_behind before many
 
--- the quiet periods that were counted, by the answer: so many, or at most so many
+-- the quiet periods that were count_behind, by the answer: so many, or at most so many
 abbrev pub CountsPeriods : ℕ → Result (Unit {0}) StepNo → ℕ → ℕ → Type 0
-CountsPeriods n (Ok _) before now = now ≡ counted before n
+CountsPeriods n (Ok _) before now = now ≡ count_behind before n
 CountsPeriods n (Err why) before now = IsCountedUpTo n before now
 
--- of each quiet period that was counted from one count to another, the pace was told of the begin and
+-- of each quiet period that was count_behind from one count to another, the pace was told of the begin and
 -- of the end
 abbrev pub ToldOf : (Point → Type 0) → ℕ → ℕ → Type 0
 ToldOf told before now =

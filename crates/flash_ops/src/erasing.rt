@@ -4,9 +4,9 @@ ghost use Rattle.std.specs.Prelude.{◌≡◌, ◌+◌, ◌/◌, ◌%◌, ◌*�
 ghost use Rattle.nor_device.specs.declared.step.Step.TheVariants.{Erase};
 ghost use Rattle.cache_gate.specs.Own.{IsInside};
 ghost use Rattle.flash_ops.specs.Moves.{HasRun, Make, erase_moves, looks};
-ghost use Rattle.flash_ops.specs.Asked.{CanRun};
+ghost use Rattle.flash_ops.specs.Asked.{CanMakeMoves};
 ghost use Rattle.flash_ops.specs.Periods.{HasPeriod, HasPeriods, erase_periods};
-ghost use Rattle.flash_ops.specs.Told.{CountsPeriods, ToldOf, counted, fault_of};
+ghost use Rattle.flash_ops.specs.Told.{CountsPeriods, ToldOf, count_behind, fault_of};
 
 use crate::pace::{Beat, Pace};
 use crate::periods::{answer, begin, end, look_behind};
@@ -36,7 +36,7 @@ pub fn erase<'w, R: Wait, D: Crash, K: Duty, P: Pace>(
     requires inside { IsInside core.base (at + len) }
     requires small { at + len < 2 ^ 32 }
     requires aligned { (at % 4096 ≡ 0) × (len % 4096 ≡ 0) }
-    requires can { CanRun K.part K.grants K.moved (erase_moves beat.old.probe at len)
+    requires can { CanMakeMoves K.part K.grants K.moved (erase_moves beat.old.probe at len)
         beat.old.probe core }
     ensures ran { HasRun k (erase_moves beat.old.probe at len) (fault_of result.1) core.entry result.0 }
     ensures probe { beat.new.probe ≡ beat.old.probe }
@@ -68,12 +68,12 @@ fn erase_period<'w, R: Wait, D: Crash, K: Duty, P: Pace>(
 ) -> (Core<'w, D, K>, Result<(), NorFault>)
     requires inside { IsInside core.base (sector * 4096 + 4096) }
     requires small { sector * 4096 + 4096 ≤ 2 ^ 32 }
-    requires can { CanRun K.part K.grants K.moved (Make (Erase sector) ∷ looks beat.old.probe)
+    requires can { CanMakeMoves K.part K.grants K.moved (Make (Erase sector) ∷ looks beat.old.probe)
         beat.old.probe core }
     ensures ran { HasRun k (Make (Erase sector) ∷ looks beat.old.probe) result.1 core.entry result.0 }
     ensures probe { beat.new.probe ≡ beat.old.probe }
     ensures pace { beat.new.pace ≡ beat.old.pace }
-    ensures ops { beat.new.ops ≡ counted beat.old.ops 1 }
+    ensures ops { beat.new.ops ≡ count_behind beat.old.ops 1 }
     ensures period { HasPeriod 1 result.1 core.entry result.0 }
     ensures told { ToldOf (P.told beat.old.pace.now) beat.old.ops beat.new.ops }
 {

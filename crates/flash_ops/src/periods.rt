@@ -7,7 +7,7 @@ ghost use Rattle.cache_gate.specs.Own.{HasShown};
 ghost use Rattle.flash_ops.specs.declared.pace.Point.TheVariants.{DriverOp, DriverOpDone};
 ghost use Rattle.flash_ops.specs.Moves.{HasRun, looks};
 ghost use Rattle.flash_ops.specs.Asked.{CanLook, HasRoomFor};
-ghost use Rattle.flash_ops.specs.Told.{LooksBehind, counted, fault_of};
+ghost use Rattle.flash_ops.specs.Told.{LooksBehind, count_behind, fault_of};
 
 use crate::pace::{Beat, Pace, Point};
 use crate::refusal::StepNo;
@@ -19,7 +19,7 @@ use std::sync::Wait;
 
 /// A quiet period with a step begins.
 pub(crate) fn begin<P: Pace>(beat: &mut Beat<'_, P>)
-    ensures ops { beat.new.ops ≡ counted beat.old.ops 1 }
+    ensures ops { beat.new.ops ≡ count_behind beat.old.ops 1 }
     ensures probe { beat.new.probe ≡ beat.old.probe }
     ensures pace { beat.new.pace ≡ beat.old.pace }
     ensures told { P.told beat.old.pace.now (DriverOp beat.new.ops) }

@@ -6,9 +6,9 @@ ghost use Rattle.bus_hub.specs.declared.did.Did.{Did};
 ghost use Rattle.cache_gate.specs.Own.{IsInside};
 ghost use Rattle.flash_steps.specs.Steps.{write_steps};
 ghost use Rattle.flash_ops.specs.Moves.{HasRun, looks, makes, periods_of, write_moves};
-ghost use Rattle.flash_ops.specs.Asked.{CanRun};
+ghost use Rattle.flash_ops.specs.Asked.{CanMakeMoves};
 ghost use Rattle.flash_ops.specs.Periods.{HasPeriod, HasPeriods, HasShownSteps, write_periods};
-ghost use Rattle.flash_ops.specs.Told.{CountsPeriods, ToldOf, counted, fault_of};
+ghost use Rattle.flash_ops.specs.Told.{CountsPeriods, ToldOf, count_behind, fault_of};
 
 use crate::pace::{Beat, Pace};
 use crate::periods::{answer, begin, end, look_behind};
@@ -38,7 +38,7 @@ pub fn write<'w, R: Wait, D: Crash, K: Duty, P: Pace>(
 ) -> (Core<'w, D, K>, Result<(), StepNo>)
     requires inside { IsInside core.base (at + length bytes.now) }
     requires small { at + length bytes.now < 2 ^ 32 }
-    requires can { CanRun K.part K.grants K.moved (write_moves beat.old.probe at bytes.now)
+    requires can { CanMakeMoves K.part K.grants K.moved (write_moves beat.old.probe at bytes.now)
         beat.old.probe core }
     ensures ran { HasRun k (write_moves beat.old.probe at bytes.now) (fault_of result.1)
         core.entry result.0 }
@@ -89,13 +89,13 @@ fn write_period<'w, R: Wait, D: Crash, K: Duty, P: Pace>(
 ) -> (Core<'w, D, K>, Result<(), NorFault>)
     requires inside { IsInside core.base (at + length bytes.now) }
     requires small { at + length bytes.now < 2 ^ 32 }
-    requires can { CanRun K.part K.grants K.moved
+    requires can { CanMakeMoves K.part K.grants K.moved
         (makes (write_steps at bytes.now) ++ looks beat.old.probe) beat.old.probe core }
     ensures ran { HasRun k (makes (write_steps at bytes.now) ++ looks beat.old.probe) result.1
         core.entry result.0 }
     ensures probe { beat.new.probe ≡ beat.old.probe }
     ensures pace { beat.new.pace ≡ beat.old.pace }
-    ensures ops { beat.new.ops ≡ counted beat.old.ops 1 }
+    ensures ops { beat.new.ops ≡ count_behind beat.old.ops 1 }
     ensures period { HasPeriod (length (write_steps at bytes.now)) result.1 core.entry result.0 }
     ensures told { ToldOf (P.told beat.old.pace.now) beat.old.ops beat.new.ops }
 {
@@ -118,7 +118,7 @@ fn program<R: Wait, D: Crash, K: Duty>(
 ) -> Result<(), NorFault>
     requires inside { IsInside quiet.old.base (at + length bytes.now) }
     requires small { at + length bytes.now < 2 ^ 32 }
-    requires can { CanRun K.part K.grants K.moved (makes (write_steps at bytes.now)) None quiet.old }
+    requires can { CanMakeMoves K.part K.grants K.moved (makes (write_steps at bytes.now)) None quiet.old }
     ensures ran { HasRun k (makes (write_steps at bytes.now)) result quiet.old quiet.new }
     ensures shows { HasShownSteps (length (write_steps at bytes.now)) result quiet.old quiet.new }
 {

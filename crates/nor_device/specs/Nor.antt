@@ -38,8 +38,8 @@ pub record HasCause {T : Type 0} (before now : ℕ) (off : Bool)
   pub off_is : IsErrOf result Off ↔ IsTrue off
 
 -- the step was made whole, where the device tells its bytes
-abbrev pub IsMade : Option Step → Option (List ℕ) → Option (List ℕ) → Type 0
-IsMade running old new =
+abbrev pub IsMadeWhole : Option Step → Option (List ℕ) → Option (List ℕ) → Type 0
+IsMadeWhole running old new =
     IfSome running (λ step. IfSome old (λ flash. new ≡ Some (applied flash step)))
 
 -- the bytes are still told: a torn flash, and one of those that are allowed

@@ -3,7 +3,7 @@
 ghost use Rattle.std.specs.Prelude.{◌≡◌, ◌⊎◌, ℕ, ◌+◌, ◌≤◌, ◌^◌, List, None, Some, IsSome, IfSome, OnOk, OnErr, IfErr};
 ghost use Rattle.nor_device.specs.Flash.{end_of, IsInOnePage, applied};
 ghost use Rattle.nor_device.specs.Torn.{Torn};
-ghost use Rattle.nor_device.specs.Nor.{HasCause, KeepsSetting, IsMade, IsLeftTorn, end_by, one_more};
+ghost use Rattle.nor_device.specs.Nor.{HasCause, KeepsSetting, IsMadeWhole, IsLeftTorn, end_by, one_more};
 ghost use Rattle.nor_device.specs.Make.{IsAfter, IsMissed};
 
 use crate::nor::{Nor, NorFault, Ready, StepEnd};
@@ -14,7 +14,7 @@ pub fn finish<D: Nor>(device: &mut D) -> Result<(), NorFault>
     requires running { IsSome (D.running device.old) }
     ensures idle { D.running device.new ≡ None }
     ensures made { OnOk result
-        (IsMade (D.running device.old) (D.bytes device.old) (D.bytes device.new)) }
+        (IsMadeWhole (D.running device.old) (D.bytes device.old) (D.bytes device.new)) }
     ensures done { OnOk result (D.may_end (D.setting device.old) (D.steps device.old) StepEnd.Done) }
     ensures torn { OnErr result (IsLeftTorn (D.may_tear (D.setting device.old) (D.steps device.old))
         (D.running device.old) (D.bytes device.old) (D.bytes device.new)) }

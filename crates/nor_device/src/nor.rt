@@ -7,7 +7,7 @@ ghost use Rattle.nor_device.specs.declared.step.Step.{Step};
 ghost use Rattle.nor_device.specs.declared.nor.StepEnd.{StepEnd};
 ghost use Rattle.nor_device.specs.declared.nor.NorFault.{NorFault};
 ghost use Rattle.nor_device.specs.Flash.{end_of, IsInOnePage};
-ghost use Rattle.nor_device.specs.Nor.{HasCause, KeepsSetting, KeepsSteps, IsIdleAsBefore, StillRuns, IsMade, IsLeftTorn, one_more, end_by, IsPart};
+ghost use Rattle.nor_device.specs.Nor.{HasCause, KeepsSetting, KeepsSteps, IsIdleAsBefore, StillRuns, IsMadeWhole, IsLeftTorn, one_more, end_by, IsPart};
 
 use crate::step::Step;
 
@@ -116,7 +116,7 @@ pub trait Nor {
         requires running { IsSome (running self.old) }
         ensures busy { result ≡ Ok Ready.Busy → StillRuns bytes running left self.old self.new }
         ensures ready { result ≡ Ok Ready.Ready → running self.new ≡ None }
-        ensures made { result ≡ Ok Ready.Ready → IsMade (running self.old) (bytes self.old) (bytes self.new) }
+        ensures made { result ≡ Ok Ready.Ready → IsMadeWhole (running self.old) (bytes self.old) (bytes self.new) }
         ensures done { result ≡ Ok Ready.Ready → may_end (setting self.old) (steps self.old) StepEnd.Done }
         ensures refused { OnErr result (running self.new ≡ None) }
         ensures torn { OnErr result (IsLeftTorn (may_tear (setting self.old) (steps self.old))

@@ -1,4 +1,4 @@
--- Quiet periods that were counted: one count behind another, and by the answer of a call.
+-- Quiet periods that were count_behind: one count behind another, and by the answer of a call.
 use Rattle.std.proofs.Common.{◌≡◌, ◌≤◌, ℕ, zero, suc, ◌+◌, ◌/◌, ◌%◌, ◌∙◌, List, length, Result, Ok, Err, ap, refl, subst, arith}
 use Rattle.boot_run.specs.declared.aims.Aim.{Aim}
 use Rattle.flash_steps.specs.Steps.{pages_in, write_steps}
@@ -7,31 +7,31 @@ use Rattle.update_steps.specs.Driver.{whole_sectors}
 use Rattle.flash_ops.specs.declared.refusal.StepNo.{StepNo}
 use Rattle.flash_ops.specs.Moves.{periods_of}
 use Rattle.flash_ops.proofs.Pieces.{few_pages}
-use Rattle.flash_ops.specs.Told.{CountsPeriods, IsCountedUpTo, counted}
+use Rattle.flash_ops.specs.Told.{CountsPeriods, IsCountedUpTo, count_behind}
 use Rattle.ota_session.specs.SessionTold.{begin_periods}
 
 -- one count behind another is a count of both
 pub counted_on : (before first later both : ℕ) → both ≡ later + first
-    → counted (counted before first) later ≡ counted before both
+    → count_behind (count_behind before first) later ≡ count_behind before both
 counted_on before first zero both sum =
-    let same : first ≡ both = omega (arith, sum) in ap (counted before) same
+    let same : first ≡ both = omega (arith, sum) in ap (count_behind before) same
 counted_on before first (suc later) both sum =
     let same : suc (later + first) ≡ both = omega (arith, sum) in
-    ap (λ (n : ℕ). counted n 1) (counted_on before first later (later + first) refl)
-    ∙ ap (counted before) same
+    ap (λ (n : ℕ). count_behind n 1) (counted_on before first later (later + first) refl)
+    ∙ ap (count_behind before) same
 
 -- a call that counts behind another one
 pub counts_on : (first later whole before between now : ℕ) (r : Result (Unit {0}) StepNo)
-    → whole ≡ later + first → between ≡ counted before first → CountsPeriods later r between now
+    → whole ≡ later + first → between ≡ count_behind before first → CountsPeriods later r between now
     → CountsPeriods whole r before now
 counts_on first later whole before between now (Ok u) sum mid is =
-    is ∙ ap (λ (n : ℕ). counted n later) mid ∙ counted_on before first later whole sum
+    is ∙ ap (λ (n : ℕ). count_behind n later) mid ∙ counted_on before first later whole sum
 counts_on first later whole before between now (Err why) sum mid is =
     let within = is.within in
     record {
       many = is.many + first;
       within = omega (arith, sum);
-      is = is.is ∙ ap (λ (n : ℕ). counted n is.many) mid
+      is = is.is ∙ ap (λ (n : ℕ). count_behind n is.many) mid
           ∙ counted_on before first is.many (is.many + first) refl;
     }
 
@@ -45,7 +45,7 @@ counted_within most more before now few is =
 module _ (n before now : ℕ) (r : Result (Unit {0}) StepNo) (is : CountsPeriods n r before now)
   where
     -- all of them, where the call was not refused
-    pub counted_ok : (u : Unit {0}) → r ≡ Ok u → now ≡ counted before n
+    pub counted_ok : (u : Unit {0}) → r ≡ Ok u → now ≡ count_behind before n
     counted_ok u fine =
         subst (λ (x : Result (Unit {0}) StepNo). CountsPeriods n x before now) fine is
 
@@ -63,7 +63,7 @@ module _ (aim : Aim) (len before now : ℕ) (r : Result (Unit {0}) StepNo)
         let same : len / 4096 ≡ begin_periods aim = omega (arith, whole) in
         subst (λ (n : ℕ). CountsPeriods n r before now) same is
 
-    pub begun_ok : (u : Unit {0}) → r ≡ Ok u → now ≡ counted before (begin_periods aim)
+    pub begun_ok : (u : Unit {0}) → r ≡ Ok u → now ≡ count_behind before (begin_periods aim)
     begun_ok = counted_ok (begin_periods aim) before now r begin_counts
 
     pub begun_err : (why : StepNo) → r ≡ Err why → IsCountedUpTo (begin_periods aim) before now

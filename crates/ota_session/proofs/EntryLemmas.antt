@@ -8,7 +8,7 @@ use Rattle.boot_run.specs.Rewriting.{rewrite}
 use Rattle.bus_hub.specs.declared.did.Base.{Base}
 use Rattle.bus_hub.specs.declared.did.Did.{Did}
 use Rattle.cache_gate.specs.Own.{Own}
-use Rattle.flash_ops.specs.Asked.{CanLook, CanRun, HasRoomFor, MayMakeAll}
+use Rattle.flash_ops.specs.Asked.{CanLook, CanMakeMoves, HasRoomFor, MayMakeAll}
 use Rattle.flash_ops.specs.declared.refusal.StepNo.{StepNo}
 use Rattle.flash_ops.specs.declared.refusal.StepNo.TheVariants as steps
 use Rattle.flash_ops.specs.Told.{fault_of}
@@ -40,10 +40,10 @@ module _ {S : Type 0} (probe : Option ℕ) (otadata : ℕ) (write : Rewrite)
         → MayMakeAll part_of Grants part_after o.base o.core o.share (rewrite otadata write)
         → HasRoomFor o.base o.core o.share (entry_moves probe otadata write)
         → CanLook o.base o.regs probe
-        → CanRun part_of Grants part_after (erasing ++ programming) probe o
+        → CanMakeMoves part_of Grants part_after (erasing ++ programming) probe o
     can_rewrite aligned long may room look =
         let size : length (entry_bytes write.entry) ≡ 32 = ap length (sym bytes_are) ∙ long in
-        subst (λ (ms : List Move). CanRun part_of Grants part_after ms probe o) entry_as (record {
+        subst (λ (ms : List Move). CanMakeMoves part_of Grants part_after ms probe o) entry_as (record {
           may = subst (λ (l : List Step).
               MayMakeAll part_of Grants part_after o.base o.core o.share l)
               (sym (steps_of_entry probe otadata write aligned size)) may;
@@ -55,7 +55,7 @@ module _ {S : Type 0} (probe : Option ℕ) (otadata : ℕ) (write : Rewrite)
     pub can_erase : otadata % 4096 ≡ 0 → length bytes ≡ 32
         → MayMakeAll part_of Grants part_after o.base o.core o.share (rewrite otadata write)
         → HasRoomFor o.base o.core o.share (entry_moves probe otadata write)
-        → CanLook o.base o.regs probe → CanRun part_of Grants part_after erasing probe o
+        → CanLook o.base o.regs probe → CanMakeMoves part_of Grants part_after erasing probe o
     can_erase aligned long may room look =
         can_first part_of Grants part_after erasing programming probe o
         (can_rewrite aligned long may room look)
@@ -67,9 +67,9 @@ module _ {S : Type 0} (probe : Option ℕ) (otadata : ℕ) (write : Rewrite)
         → HasRoomFor o.base o.core o.share (entry_moves probe otadata write)
         → CanLook o.base o.regs probe → looked ≡ probe → r ≡ Ok u
         → HasRun 0 erasing (fault_of r) o p
-        → CanRun part_of Grants part_after (write_moves looked at bytes) looked p
+        → CanMakeMoves part_of Grants part_after (write_moves looked at bytes) looked p
     can_program p looked r u aligned long may room look same fine run =
-        subst (λ (l : Option ℕ). CanRun part_of Grants part_after (write_moves l at bytes) l p)
+        subst (λ (l : Option ℕ). CanMakeMoves part_of Grants part_after (write_moves l at bytes) l p)
         (sym same)
         (can_then part_of Grants part_after 0 erasing programming probe o p
         (can_rewrite aligned long may room look) (ran_ok 0 erasing r u o p fine run))

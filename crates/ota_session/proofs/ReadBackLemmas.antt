@@ -23,7 +23,7 @@ use Rattle.flash_ops.specs.Told.{fault_of}
 use Rattle.flash_ops.specs.Moves.{Ask, HasRun, Move, read_moves, steps_of}
 use Rattle.flash_ops.specs.Shown.{AreBytesOf}
 use Rattle.flash_ops.proofs.Pieces.{read_next, read_nothing, steps_of_read}
-use Rattle.flash_ops.specs.Periods.{BreaksOff, HasFewInPeriod, HasPeriod, HasPeriods, read_periods, period_shown, periods_shown}
+use Rattle.flash_ops.specs.Periods.{BreaksOffWithin, HasFewInPeriod, HasPeriod, HasPeriods, read_periods, period_shown, periods_shown}
 use Rattle.flash_ops.proofs.PeriodLemmas.{Passed, passed_all, passed_none, passed_one, passed_stops, read_periods_next, read_periods_none}
 use Rattle.flash_ops.proofs.Runs.{Left, base_same, left_all, left_none, left_stops, left_then}
 use Rattle.ota_session.specs.Course.{Course, Install}
@@ -197,7 +197,7 @@ one_read {B} count r o p some most h =
     alone : (n : ℕ) → HasShown (periods_shown (n ∷ [])) o p → HasShown (period_shown n) o p
     alone n shows = subst (λ (l : List Kind). HasShown l o p) (append-nil (period_shown n)) shows
 
-    stopped : (made : List ℕ) → BreaksOff (0 ∷ []) made → HasShown (periods_shown made) o p
+    stopped : (made : List ℕ) → BreaksOffWithin (0 ∷ []) made → HasShown (periods_shown made) o p
         → HasFewInPeriod 0 o p
     stopped [] broke shows = absurd broke
     stopped (m ∷ made) (inl broke) shows = record {

@@ -17,7 +17,7 @@ use Rattle.flash_steps.specs.Steps.{write_steps}
 use Rattle.flash_steps.proofs.WriteLemmas.{no_steps}
 use Rattle.update_steps.specs.Driver.{next_rewrite, sealed_steps, slot_erases, whole_sectors}
 use Rattle.update_steps.proofs.DataLemmas.{aligned_row, sectors_fit}
-use Rattle.flash_ops.specs.Asked.{CanLook, CanRun, HasRoomFor, MayMakeAll}
+use Rattle.flash_ops.specs.Asked.{CanLook, CanMakeMoves, HasRoomFor, MayMakeAll}
 use Rattle.flash_ops.specs.declared.refusal.StepNo.{StepNo}
 use Rattle.flash_ops.specs.declared.refusal.StepNo.TheVariants as steps
 use Rattle.flash_ops.specs.Told.{fault_of}
@@ -92,7 +92,7 @@ module _ {S : Type 0} (layout : Places) (purpose : Purpose) where
       (o : Own (Base S Course) Did) → Drives layout purpose done o
       → steps_for layout purpose ≡ done ++ (steps_of ms ++ rest)
       → HasRoomFor o.base o.core o.share ms → CanLook o.base o.regs probe
-      → CanRun part_of Grants part_after ms probe o
+      → CanMakeMoves part_of Grants part_after ms probe o
   drives_can done ms rest probe o d split room look = record {
     may = drives_may done (steps_of ms) rest o d split;
     room = room;
@@ -163,7 +163,7 @@ pub record CanBegin {S : Type 0} (probe : Option ℕ) (row : Row) (len : ℕ)
   pub inside : IsInside o.base (row.offset + len)
   pub small : row.offset + len < 2 ^ 32
   pub aligned : (row.offset % 4096 ≡ 0) × (len % 4096 ≡ 0)
-  pub can : CanRun part_of Grants part_after (erase_moves probe row.offset len) probe o
+  pub can : CanMakeMoves part_of Grants part_after (erase_moves probe row.offset len) probe o
 
 module _ {S : Type 0} (layout : Places) (aim : Aim) (row : Row)
     (is : slice_get layout.slots aim.slot ≡ Some row) (probe : Option ℕ)
@@ -202,7 +202,7 @@ module _ {S : Type 0} (layout : Places) (aim : Aim) (row : Row)
         inside = drives_inside layout (Install aim image) [] (row.offset + len) o d ends;
         small = let small = lies.small in omega (arith, ends, small);
         aligned = (lies.begins, omega arith);
-        can = subst (λ (ms : List Move). CanRun part_of Grants part_after ms probe o)
+        can = subst (λ (ms : List Move). CanMakeMoves part_of Grants part_after ms probe o)
             (begins_as len whole)
             (drives_can layout (Install aim image) [] (begin_moves layout aim probe) front.0 probe o d
             (front.1 ∙ ap (λ (l : List Step). l ++ front.0) (sym made)) room look);
@@ -287,7 +287,7 @@ pub record CanWrite {S : Type 0} (probe : Option ℕ) (w : Writing (Base S Cours
     : Type 0 where
   pub inside : IsInside w.core.base (w.target.at + w.written + length piece)
   pub small : w.target.at + w.written + length piece < 2 ^ 32
-  pub can : CanRun part_of Grants part_after (piece_moves probe w piece) probe w.core
+  pub can : CanMakeMoves part_of Grants part_after (piece_moves probe w piece) probe w.core
 
 module _ {S : Type 0} (probe : Option ℕ) (w : Writing (Base S Course)) (piece : List ℕ)
     (writing : IsWriting w) (next : IsNextPiece w piece) (right : wrong_byte w.written piece ≡ None)

@@ -13,7 +13,7 @@ use Rattle.flash_steps.specs.Steps.{write_steps}
 use Rattle.flash_ops.specs.declared.refusal.StepNo.{StepNo}
 use Rattle.flash_ops.specs.declared.refusal.StepNo.TheVariants as steps
 use Rattle.flash_ops.specs.Moves.{HasRun, Move, periods_of, read_moves, write_moves}
-use Rattle.flash_ops.specs.Told.{IsCountedUpTo, counted}
+use Rattle.flash_ops.specs.Told.{IsCountedUpTo, count_behind}
 use Rattle.ota_session.specs.declared.refusal.WriteNo.{WriteNo}
 use Rattle.ota_session.specs.declared.refusal.WriteNo.TheVariants as writes
 use Rattle.ota_session.specs.declared.refusal.EndNo.{EndNo}
@@ -26,9 +26,9 @@ abbrev pub cause_of : StepNo → NorFault
 cause_of steps.Device = Failed
 cause_of steps.Cut = Off
 
--- the quiet periods that a call counted, by its answer: so many, or at most so many
+-- the quiet periods that a call count_behind, by its answer: so many, or at most so many
 abbrev pub HasCounted : {A E : Type 0} → ℕ → Result A E → ℕ → ℕ → Type 0
-HasCounted n (Ok done) before now = now ≡ counted before n
+HasCounted n (Ok done) before now = now ≡ count_behind before n
 HasCounted n (Err back) before now = IsCountedUpTo n before now
 
 -- the quiet periods of a write that was refused: none for the session's first byte, else at most so

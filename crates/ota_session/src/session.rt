@@ -4,7 +4,7 @@ ghost use Rattle.std.specs.Prelude.{◌≡◌, ◌<◌, ◌^◌, ◌-◌, ◌+�
 ghost use Rattle.bus_hub.specs.declared.did.Base.{Base};
 ghost use Rattle.flash_ops.specs.Asked.{CanLook, HasRoomFor};
 ghost use Rattle.flash_ops.specs.Moves.{HasRun};
-ghost use Rattle.flash_ops.specs.Told.{ToldOf, counted};
+ghost use Rattle.flash_ops.specs.Told.{ToldOf, count_behind};
 ghost use Rattle.update_steps.specs.Driver.{whole_sectors};
 ghost use Rattle.ota_session.specs.Stages.{IsNextPiece, IsOpen, IsWriting, begin_moves};
 ghost use Rattle.ota_session.specs.SessionTold.{HasBegun, HasCounted, HasCountedSome, HasWritten, IsNotWritten, begin_periods, cause_of, piece_moves, piece_periods, wrong_byte};
@@ -69,7 +69,7 @@ pub fn begin<'w, 'a, R: Wait, D: Crash, P: Pace>(
     ensures told { ToldOf (P.told beat.old.pace.now) beat.old.ops beat.new.ops }
 {
     let row = layout.place(App::Ota(aim.slot));
-    let (core, made) = erase(rt, core, beat, 0, row.offset, sectors_of(aim.length));
+    let (core, made) = erase(rt, core, beat, 0, row.offset, bytes_of_sectors(aim.length));
     match made {
         Ok(()) => Ok(Ota {
             core,
@@ -81,7 +81,7 @@ pub fn begin<'w, 'a, R: Wait, D: Crash, P: Pace>(
 }
 
 /// How many bytes the sectors have that so many bytes need.
-fn sectors_of(length: u32) -> u32
+fn bytes_of_sectors(length: u32) -> u32
     requires small { whole_sectors length < 2 ^ 32 }
     ensures exact { result ≡ whole_sectors length }
 {
@@ -131,7 +131,7 @@ impl<'w, 'a, D: Crash> Ota<'w, D, UpdateDuty<'a>> {
         ensures probe { beat.new.probe ≡ beat.old.probe }
         ensures pace { beat.new.pace ≡ beat.old.pace }
         ensures ops { MatchResult result
-            (λ _. beat.new.ops ≡ counted beat.old.ops (piece_periods self.entry piece.now))
+            (λ _. beat.new.ops ≡ count_behind beat.old.ops (piece_periods self.entry piece.now))
             (λ back. HasCountedSome (piece_periods self.entry piece.now) back.no
             beat.old.ops beat.new.ops) }
         ensures told { ToldOf (P.told beat.old.pace.now) beat.old.ops beat.new.ops }

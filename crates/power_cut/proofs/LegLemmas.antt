@@ -27,7 +27,7 @@ use Rattle.bus_hub.proofs.Prefixes.{good_at_all}
 use Rattle.boot_run.specs.declared.aims.Aim.{Aim}
 use Rattle.update_steps.specs.Beside.{IsApart}
 use Rattle.power_cut.specs.declared.legs.Ran.{Ran}
-use Rattle.power_cut.specs.Device.{MayEnd, MayRefuse, MayTear, MustRefuse, bytes_of, faults_of, is_off, setting_of}
+use Rattle.power_cut.specs.Device.{MayEnd, MayRefuse, MayTear, MustRefuse, told_bytes, faults_of, is_off, setting_of}
 use Rattle.power_cut.specs.Kept.{IsConfirmLeg, IsSessionLeg, KeepsConfirm, KeepsSession}
 use Rattle.power_cut.specs.Leg.{AnyGrants, IsLeg, IsSameFlash, LeavesBehind, any_after, any_duty, any_part, bus_behind, share_of, state_behind}
 use Rattle.power_cut.specs.Update.{HoldsRewrite, HoldsUpdate}
@@ -121,9 +121,9 @@ module _ {K P : Type 0} (part : K → ℕ → P) (grants : P → Step → Type 0
         (h : Hub (CutDevice Ram) K) (b : Base (CutSetting (Unit {0})) K) (map : Map)
         (journal : Kept) (duty : K) (left right : List Did) (drove worked : Result
         (Unit {0}) NorFault)
-        → IsBaseOf bytes_of is_off (λ d. d.steps) faults_of setting_of b old map journal duty
+        → IsBaseOf told_bytes is_off (λ d. d.steps) faults_of setting_of b old map journal duty
         → pages b.map
-        → (stands : Stands bytes_of is_off (λ d. d.steps) faults_of setting_of MayEnd MayTear
+        → (stands : Stands told_bytes is_off (λ d. d.steps) faults_of setting_of MayEnd MayTear
         MayRefuse MustRefuse part grants after good h b left right)
         → h.running ≡ None → IsSameFlash h.dev new → IsLegal h.journal.entries
         → stays b.duty

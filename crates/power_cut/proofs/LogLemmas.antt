@@ -17,7 +17,7 @@ use Rattle.bus_hub.specs.declared.did.Running.{Running}
 use Rattle.bus_hub.specs.Hub.{Hub, Stands, begun}
 use Rattle.bus_hub.specs.Log.{Item, Rule, Ruled, Runs, State, change, made_whole, of_core, reached}
 use Rattle.bus_hub.proofs.Logs.{kept}
-use Rattle.power_cut.specs.Device.{MayEnd, MayRefuse, MayTear, MustRefuse, bytes_of, faults_of, is_off, setting_of}
+use Rattle.power_cut.specs.Device.{MayEnd, MayRefuse, MayTear, MustRefuse, told_bytes, faults_of, is_off, setting_of}
 use Rattle.power_cut.specs.Refused.{IsRefusal}
 use Rattle.power_cut.proofs.EndsLemmas.{by_choice, refused_by_choice}
 
@@ -179,7 +179,7 @@ module _ {K P : Type 0} (part : K → ℕ → P) (grants : P → Step → Type 0
 
   module _ (good : List ℕ → K → List ℕ → Type 0) (h : Hub (CutDevice Ram) K)
       (b : Base Choice K) (left right : List Did)
-      (stands : Stands bytes_of is_off (λ dev. dev.steps) faults_of setting_of MayEnd MayTear
+      (stands : Stands told_bytes is_off (λ dev. dev.steps) faults_of setting_of MayEnd MayTear
       MayRefuse MustRefuse part grants after good h b left right) where
     steps_end : (reached after (begun b) stands.stood.log).steps ≡ h.dev.steps
     steps_end = ap (λ (t : State K). t.steps) stands.stood.leads

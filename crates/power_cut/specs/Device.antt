@@ -13,8 +13,8 @@ use Rattle.power_cut.specs.declared.legs.LegEnd.{LegEnd}
 use Rattle.power_cut.specs.declared.legs.LegEnd.TheVariants.{Done, Device, Cut, FirstByte, Empty, Bad}
 
 -- the bytes, which it always tells
-abbrev pub bytes_of : CutDevice Ram → Option (List ℕ)
-bytes_of dev = Some dev.inner.bytes
+abbrev pub told_bytes : CutDevice Ram → Option (List ℕ)
+told_bytes dev = Some dev.inner.bytes
 
 -- the step that runs
 abbrev pub running_in : CutDevice Ram → Option Step

@@ -15,7 +15,7 @@ use Rattle.bus_hub.specs.Room.{Kept}
 use Rattle.bus_hub.specs.Log.{Item, State, reached}
 use Rattle.bus_hub.specs.Hub.{Hub, IsBaseOf, Stands, begun, opened, step_of}
 use Rattle.bus_hub.specs.Legal.{IsLegal}
-use Rattle.power_cut.specs.Device.{MayEnd, MayTear, MayRefuse, MustRefuse, bytes_of, faults_of, is_off, setting_of}
+use Rattle.power_cut.specs.Device.{MayEnd, MayTear, MayRefuse, MustRefuse, told_bytes, faults_of, is_off, setting_of}
 
 -- a log says nothing of a duty: each step is allowed, and each flash is good
 abbrev pub any_duty : AnyDuty
@@ -37,7 +37,7 @@ IsAnyGood first duty flash = Unit {0}
 abbrev pub LegStands : Hub (CutDevice Ram) AnyDuty → Base (CutSetting (Unit {0})) AnyDuty
     → List Did → List Did → Type 0
 LegStands =
-    Stands bytes_of is_off (λ dev. dev.steps) faults_of setting_of MayEnd MayTear MayRefuse
+    Stands told_bytes is_off (λ dev. dev.steps) faults_of setting_of MayEnd MayTear MayRefuse
     MustRefuse any_part AnyGrants any_after IsAnyGood
 
 -- the bus behind a leg: no step runs; registers play no part
@@ -47,7 +47,7 @@ bus_behind dev map journal = opened dev map journal any_duty
 -- the base of a leg that begins on this device, with this map and the journal's rooms
 abbrev pub IsLegBase : Base (CutSetting (Unit {0})) AnyDuty → CutDevice Ram → Map → Kept → Type 0
 IsLegBase base dev map journal =
-    IsBaseOf bytes_of is_off (λ d. d.steps) faults_of setting_of base dev map journal any_duty
+    IsBaseOf told_bytes is_off (λ d. d.steps) faults_of setting_of base dev map journal any_duty
 
 -- the share of a core
 abbrev pub share_of : ℕ → List Did → List Did → List Did

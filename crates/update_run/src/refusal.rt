@@ -9,7 +9,7 @@ use partition_table::TableBad;
 pub enum UpdateNo {
     /// The line of this number, from 1, of the script is wrong.
     Script { line: u64, why: ScriptWhy },
-    /// The flash has this many bytes, and not 1, 2, 4, 8 or 16 MiB.
+    /// The flash has this many bytes, and not 1, 2, 4, 8, 16 or 32 MiB.
     FlashSize { size: u64 },
     /// The flash has no partition table, or none that gives a layout.
     Table(TableBad),

@@ -1,7 +1,7 @@
--- The entry is counted where it is written.
+-- The entry is count_behind where it is written.
 use Rattle.std.proofs.Common.{◌∙◌, ap}
 use Rattle.ota_session.specs.Stages.{image_of}
-use Rattle.flash_ops.specs.Told.{counted}
+use Rattle.flash_ops.specs.Told.{count_behind}
 use Rattle.duo_run.proofs.DrivingLemmas.{sealed_ops}
 use Rattle.duo_run.proofs.PacedLemmas.{not_sealed_ops}
 use Rattle.duo_run.proofs.driver.seal.Goals as goal
@@ -15,5 +15,5 @@ returns-in-Err-clause-ops g c =
 pub returns-in-Ok-set_boot-clause-ops : goal.returns-in-Ok-set_boot-clause-ops
 returns-in-Ok-set_boot-clause-ops g c =
     c.in-Ok-set_boot.ensures.ops
-    ∙ ap (counted c.args.beat.now.ops)
+    ∙ ap (count_behind c.args.beat.now.ops)
     (sealed_ops c.args.beat.now.probe c.args.ota c.in-Ok.sealed c.in-Ok.ensures.ok)

@@ -3,7 +3,7 @@ use Rattle.std.proofs.Common.{◌≡◌, ◌≤◌, ◌∙◌, ap, sym, subst, a
 use Rattle.std.proofs.lemmas.Bool.Decides.{nat_tests}
 use Rattle.flash_ops.specs.Asked.{HasRoomFor}
 use Rattle.ota_session.specs.SessionTold.{HasWritten, IsNotWritten, piece_moves, piece_periods}
-use Rattle.flash_ops.specs.Told.{counted}
+use Rattle.flash_ops.specs.Told.{count_behind}
 use Rattle.flash_ops.proofs.Telling.{told_then}
 use Rattle.duo_run.specs.Paced.{pieces_of}
 use Rattle.duo_run.proofs.PacedLemmas.{piece_counts, pieces_counted, uncounted}
@@ -49,7 +49,7 @@ returns-in-Err-clause-err g c =
     (subst (λ (p : Option ℕ). IsNotWritten p piece w c.in-Err.back.no c.in-Err.back.core)
     c.loop-rest.invariant.probe c.in-Err.ensures.err)
 
--- before anything was counted, or as far as that
+-- before anything was count_behind, or as far as that
 pub returns-in-Err-clause-ops : goal.returns-in-Err-clause-ops
 returns-in-Err-clause-ops g c =
     let w = c.loop-rest.ota in
@@ -103,7 +103,7 @@ loop-rest-preserved g c =
       probe = c.write.ensures.probe ∙ inv.probe;
       pace = c.write.ensures.pace ∙ inv.pace;
       ops = piece_counts c.loop-rest.beat.ops c.write.new.beat.ops
-          (counted c.args.beat.now.ops (pieces_of (length c.args.image.now))) rest
+          (count_behind c.args.beat.now.ops (pieces_of (length c.args.image.now))) rest
           c.split_at_most.result.1.now (piece_periods w piece) c.split_at_most.ensures.rest some
           (round_period c.args.beat.now.probe c.args.image.now c.args.ota w rest piece
           c.split_at_most.result.1.now inv.up c.requires.nothing c.requires.long
@@ -129,12 +129,12 @@ returns-clause-ok g c =
     up_to_all c.args.beat.now.probe c.args.image.now c.args.ota c.loop-rest.ota rest
     c.loop-rest.invariant.up c.requires.nothing gone
 
--- each piece was counted
+-- each piece was count_behind
 pub returns-clause-ops : goal.returns-clause-ops
 returns-clause-ops g c =
     let rest = c.loop-rest.rest.now in
     let gone : length rest ≡ 0 =
     grind (arith, nat_tests, c.is_empty.ensures, c.loop-rest-test.false) in
     pieces_counted c.loop-rest.beat.ops
-    (counted c.args.beat.now.ops (pieces_of (length c.args.image.now))) rest gone
+    (count_behind c.args.beat.now.ops (pieces_of (length c.args.image.now))) rest gone
     c.loop-rest.invariant.ops

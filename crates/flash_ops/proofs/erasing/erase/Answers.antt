@@ -3,7 +3,7 @@ use Rattle.std.specs.Prelude.{replicate}
 use Rattle.nor_device.specs.declared.step.Step.TheVariants.{Erase}
 use Rattle.nor_device.specs.declared.nor.NorFault.{NorFault}
 use Rattle.flash_ops.specs.Moves.{Move, Make, HasRun, looks, erase_moves}
-use Rattle.flash_ops.specs.Asked.{CanRun}
+use Rattle.flash_ops.specs.Asked.{CanMakeMoves}
 use Rattle.flash_ops.proofs.Runs.{base_same, left_all, left_none, left_stops, left_then}
 use Rattle.flash_ops.proofs.Can.{can_first, can_then}
 use Rattle.flash_ops.proofs.Pieces.{all_sectors, next_sector, no_sector, sectors_left}
@@ -24,7 +24,7 @@ loop-i-init g c =
     let all : count - 0 ≡ count = omega arith in
     record {
       base = refl;
-      can = subst (λ (m : List Move). CanRun d.part d.grants d.moved m probe c.args.core) is
+      can = subst (λ (m : List Move). CanMakeMoves d.part d.grants d.moved m probe c.args.core) is
           c.requires.can;
       left = left_all c.args.k (erase_moves probe c.args.at c.args.len)
           (sectors_left probe first count 0) c.args.core is;
@@ -46,11 +46,11 @@ erase_period-next-requires-clause-can g c =
     let i = c.loop-i.i in
     let first = c.args.at / 4096 in
     let count = c.args.len / 4096 in
-    subst (λ (p : Option ℕ). CanRun d.part d.grants d.moved (Make (Erase (first + i)) ∷ looks p) p
+    subst (λ (p : Option ℕ). CanMakeMoves d.part d.grants d.moved (Make (Erase (first + i)) ∷ looks p) p
     core) (sym inv.probe)
     (can_first d.part d.grants d.moved (Make (Erase (first + i)) ∷ looks probe)
     (sectors_left probe first count (i + 1)) probe core
-    (subst (λ (m : List Move). CanRun d.part d.grants d.moved m probe core)
+    (subst (λ (m : List Move). CanMakeMoves d.part d.grants d.moved m probe core)
     (next_sector probe first count i c.loop-i-test.true) inv.can))
 
 -- it was refused
@@ -133,7 +133,7 @@ loop-i-preserved g c =
     record {
       base = base_same c.args.k moves (Ok tt) core next made ∙ inv.base;
       can = can_then d.part d.grants d.moved c.args.k moves later probe core next
-          (subst (λ (m : List Move). CanRun d.part d.grants d.moved m probe core) is inv.can) made;
+          (subst (λ (m : List Move). CanMakeMoves d.part d.grants d.moved m probe core) is inv.can) made;
       left = left_then c.args.k whole (sectors_left probe first count i) moves later c.args.core
           core next is inv.left made;
       probe = c.erase_period-next.ensures.probe ∙ inv.probe;

@@ -1,7 +1,7 @@
 use Rattle.std.proofs.Common.{◌≡◌, ◌-◌}
 use Rattle.std.specs.Prelude.{replicate}
 use Rattle.flash_ops.specs.Moves.{erase_moves}
-use Rattle.flash_ops.specs.Asked.{CanRun}
+use Rattle.flash_ops.specs.Asked.{CanMakeMoves}
 use Rattle.flash_ops.specs.Told.{ToldOf}
 use Rattle.flash_ops.proofs.Runs.{Left}
 use Rattle.flash_ops.proofs.Counts.{Counting}
@@ -14,7 +14,7 @@ use Rattle.flash_ops.proofs.erasing.erase.Given as goal
 abbrev pub invariant-loop-i : goal.invariant-loop-i
 invariant-loop-i g l = let d = g.K.Duty in let probe = l.fn.beat.probe in record {
   base : l.core.base ≡ l.fn.core.base;
-  can : CanRun d.part d.grants d.moved (sectors_left probe l.first l.count l.i) probe l.core;
+  can : CanMakeMoves d.part d.grants d.moved (sectors_left probe l.first l.count l.i) probe l.core;
   left : Left l.k (erase_moves probe l.fn.at l.fn.len) (sectors_left probe l.first l.count l.i)
       l.fn.core l.core;
   probe : l.beat.probe ≡ probe;

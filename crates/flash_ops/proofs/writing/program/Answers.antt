@@ -4,7 +4,7 @@ use Rattle.nor_device.specs.Flash.{end_of}
 use Rattle.cache_gate.specs.Own.{IsInside}
 use Rattle.flash_steps.specs.Steps.{write_steps}
 use Rattle.flash_ops.specs.Moves.{Move, Make, HasRun, makes}
-use Rattle.flash_ops.specs.Asked.{CanRun}
+use Rattle.flash_ops.specs.Asked.{CanMakeMoves}
 use Rattle.flash_ops.proofs.Runs.{run_step, left_then}
 use Rattle.flash_ops.proofs.Can.{can_then, inside_run}
 use Rattle.flash_ops.proofs.PeriodLemmas.{stepping_one, stepping_stops}
@@ -36,7 +36,7 @@ loop-step-preserved g c =
       small = omega (arith, inv.small);
       can = can_then d.part d.grants d.moved c.args.k (Make step ∷ [])
           (makes (write_steps at later)) None c.loop-step.quiet c.step.new.self
-          (subst (λ (m : List Move). CanRun d.part d.grants d.moved m None c.loop-step.quiet) is
+          (subst (λ (m : List Move). CanMakeMoves d.part d.grants d.moved m None c.loop-step.quiet) is
           inv.can) run;
       left = left_then c.args.k (makes (write_steps c.args.at c.args.bytes.now))
           (makes (write_steps c.loop-step.at before)) (Make step ∷ [])

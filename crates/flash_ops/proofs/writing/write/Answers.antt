@@ -4,7 +4,7 @@ use Rattle.nor_device.specs.declared.nor.NorFault.{NorFault}
 use Rattle.cache_gate.specs.Own.{IsInside}
 use Rattle.flash_steps.specs.Steps.{write_steps}
 use Rattle.flash_ops.specs.Moves.{Move, HasRun, makes, looks, periods_of, write_moves}
-use Rattle.flash_ops.specs.Asked.{CanRun}
+use Rattle.flash_ops.specs.Asked.{CanMakeMoves}
 use Rattle.flash_ops.proofs.Runs.{left_all, left_none, left_stops, left_then}
 use Rattle.flash_ops.proofs.Can.{can_first, can_then, inside_run}
 use Rattle.flash_ops.proofs.Pieces.{length_cut, periods_cut, periods_done, write_done, write_period_cut}
@@ -48,11 +48,11 @@ write_period-next-requires-clause-can g c =
     let moves = makes (write_steps at first) in
     let is = write_period_cut probe at bytes first rest some c.split_at_period.ensures.first
     c.split_at_period.ensures.rest in
-    subst (λ (p : Option ℕ). CanRun d.part d.grants d.moved (moves ++ looks p) p core)
+    subst (λ (p : Option ℕ). CanMakeMoves d.part d.grants d.moved (moves ++ looks p) p core)
     (sym inv.probe)
     (can_first d.part d.grants d.moved (moves ++ looks probe)
     (write_moves probe (at + length first) rest) probe core
-    (subst (λ (m : List Move). CanRun d.part d.grants d.moved m probe core) is inv.can))
+    (subst (λ (m : List Move). CanMakeMoves d.part d.grants d.moved m probe core) is inv.can))
 
 -- it was refused
 pub returns-in-Err-clause-ran : goal.returns-in-Err-clause-ran
@@ -160,7 +160,7 @@ loop-rest-preserved g c =
           inv.inside);
       small = omega (arith, inv.small);
       can = can_then d.part d.grants d.moved c.args.k (moves ++ looks probe) later probe core next
-          (subst (λ (m : List Move). CanRun d.part d.grants d.moved m probe core) is inv.can)
+          (subst (λ (m : List Move). CanMakeMoves d.part d.grants d.moved m probe core) is inv.can)
           made;
       left = left_then c.args.k whole (write_moves probe at bytes) (moves ++ looks probe) later
           c.args.core core next is inv.left made;

@@ -2,7 +2,7 @@ use Rattle.std.proofs.Common.{◌≡◌, ◌+◌, ◌<◌, ◌^◌, length}
 use Rattle.cache_gate.specs.Own.{IsInside}
 use Rattle.flash_steps.specs.Steps.{write_steps}
 use Rattle.flash_ops.specs.Moves.{periods_of, write_moves}
-use Rattle.flash_ops.specs.Asked.{CanRun}
+use Rattle.flash_ops.specs.Asked.{CanMakeMoves}
 use Rattle.flash_ops.specs.Told.{ToldOf}
 use Rattle.flash_ops.proofs.Runs.{Left}
 use Rattle.flash_ops.proofs.Counts.{Counting}
@@ -15,7 +15,7 @@ abbrev pub invariant-loop-rest : goal.invariant-loop-rest
 invariant-loop-rest g l = let d = g.K.Duty in let probe = l.fn.beat.probe in record {
   inside : IsInside l.core.base (l.at + length l.rest);
   small : l.at + length l.rest < 2 ^ 32;
-  can : CanRun d.part d.grants d.moved (write_moves probe l.at l.rest) probe l.core;
+  can : CanMakeMoves d.part d.grants d.moved (write_moves probe l.at l.rest) probe l.core;
   left : Left l.k (write_moves probe l.fn.at l.fn.bytes) (write_moves probe l.at l.rest)
       l.fn.core l.core;
   probe : l.beat.probe ≡ probe;

@@ -9,8 +9,8 @@ place-row-requires g c = record {
   found = has_slot c.args.layout.now c.args.aim.now c.args.core c.requires.session;
 }
 
-pub sectors_of-requires : goal.sectors_of-requires
-sectors_of-requires g c = record {
+pub bytes_of_sectors-requires : goal.bytes_of_sectors-requires
+bytes_of_sectors-requires g c = record {
   small = few_sectors c.args.layout.now c.args.aim.now c.place-row.result c.place-row.ensures.exact
       c.args.beat.now.probe c.args.core c.requires.session;
 }
@@ -19,32 +19,32 @@ sectors_of-requires g c = record {
 pub erase-core-requires : goal.erase-core-requires
 erase-core-requires g c =
     let can = can_begin c.args.layout.now c.args.aim.now c.place-row.result c.place-row.ensures.exact
-    c.args.beat.now.probe c.args.core c.requires.session c.sectors_of.result
-    c.sectors_of.ensures.exact c.requires.room c.requires.look in
+    c.args.beat.now.probe c.args.core c.requires.session c.bytes_of_sectors.result
+    c.bytes_of_sectors.ensures.exact c.requires.room c.requires.look in
     record { inside = can.inside; small = can.small; aligned = can.aligned; can = can.can }
 
 pub returns-in-Ok-clause-ok : goal.returns-in-Ok-clause-ok
 returns-in-Ok-clause-ok g c =
     has_begun c.args.layout.now c.args.aim.now c.place-row.result c.place-row.ensures.exact
-    c.args.beat.now.probe c.args.core c.requires.session c.sectors_of.result
+    c.args.beat.now.probe c.args.core c.requires.session c.bytes_of_sectors.result
     c.erase-core.result.0 c.erase-core.result.1 c.in-Ok.field-0 c.of.result
-    c.sectors_of.ensures.exact c.erase-core.ensures.ran c.in-Ok.is c.of.ensures.exact
+    c.bytes_of_sectors.ensures.exact c.erase-core.ensures.ran c.in-Ok.is c.of.ensures.exact
 
 pub returns-in-Err-clause-err : goal.returns-in-Err-clause-err
 returns-in-Err-clause-err g c =
     not_begun c.args.layout.now c.args.aim.now c.place-row.result c.place-row.ensures.exact
-    c.args.beat.now.probe c.args.core c.requires.session c.sectors_of.result
-    c.erase-core.result.0 c.erase-core.result.1 c.in-Err.no c.sectors_of.ensures.exact
+    c.args.beat.now.probe c.args.core c.requires.session c.bytes_of_sectors.result
+    c.erase-core.result.0 c.erase-core.result.1 c.in-Err.no c.bytes_of_sectors.ensures.exact
     c.erase-core.ensures.ran c.in-Err.is
 
 pub returns-in-Ok-clause-ops : goal.returns-in-Ok-clause-ops
 returns-in-Ok-clause-ops g c =
-    begun_ok c.args.aim.now c.sectors_of.result c.args.beat.now.ops c.erase-core.new.beat.ops
-    c.erase-core.result.1 c.sectors_of.ensures.exact c.erase-core.ensures.ops c.in-Ok.field-0
+    begun_ok c.args.aim.now c.bytes_of_sectors.result c.args.beat.now.ops c.erase-core.new.beat.ops
+    c.erase-core.result.1 c.bytes_of_sectors.ensures.exact c.erase-core.ensures.ops c.in-Ok.field-0
     c.in-Ok.is
 
 pub returns-in-Err-clause-ops : goal.returns-in-Err-clause-ops
 returns-in-Err-clause-ops g c =
-    begun_err c.args.aim.now c.sectors_of.result c.args.beat.now.ops c.erase-core.new.beat.ops
-    c.erase-core.result.1 c.sectors_of.ensures.exact c.erase-core.ensures.ops c.in-Err.no
+    begun_err c.args.aim.now c.bytes_of_sectors.result c.args.beat.now.ops c.erase-core.new.beat.ops
+    c.erase-core.result.1 c.bytes_of_sectors.ensures.exact c.erase-core.ensures.ops c.in-Err.no
     c.in-Err.is
