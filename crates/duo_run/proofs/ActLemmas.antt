@@ -33,7 +33,7 @@ use Rattle.flash_ops.specs.declared.refusal.OpNo.{OpNo}
 use Rattle.flash_ops.specs.declared.refusal.OpNo.TheVariants as ops
 use Rattle.flash_ops.specs.declared.refusal.StepNo.{StepNo}
 use Rattle.flash_ops.specs.declared.refusal.StepNo.TheVariants.{Device, Cut}
-use Rattle.flash_ops.specs.Told.{HasChanged, barred_by, fault_of}
+use Rattle.flash_ops.specs.Told.{HasChanged, fault_of}
 use Rattle.flash_ops.proofs.Runs.{adds_then, regs_same}
 use Rattle.duo_run.specs.Worker.{BreaksOff, HasWritten, mapped_act, note, refused, unmapped_act, why_of}
 use Rattle.duo_run.specs.Works.{HasActed}
@@ -155,16 +155,6 @@ module _ {B : Type 0} where
 
 -- ---- writes and erases
 
--- what is noted of a refusal
-barred_act : (refusal : PartNo)
-    → end_act (Err (barred_by refusal)) ≡ Ok (acts.Refused (why_of refusal))
-barred_act part.NoLabel = refl
-barred_act part.Dangerous = refl
-barred_act part.ReadOnly = refl
-barred_act part.Encrypted = refl
-barred_act part.Unaligned = refl
-barred_act part.Range = refl
-
 -- a write or an erase of a partition and its note, by whether the device refused
 abbrev Wrote : ℕ → Regs → Result Row PartNo → List Step → Result (Unit {0}) NorFault → List Did
     → Type 0
@@ -180,11 +170,10 @@ record HasWrote {B : Type 0} (k : ℕ) (checked : Result Row PartNo) (steps : Li
 module _ {B : Type 0} where
   -- it was refused
   wrote_barred : (k : ℕ) (refusal : PartNo) (steps : List Step) (end' : Result (Unit {0}) OpNo)
-      (r : Result (Unit {0}) StepNo) (o a b : Own B Did) → end' ≡ Err (barred_by refusal)
+      (r : Result (Unit {0}) StepNo) (o a b : Own B Did) → end' ≡ Err (ops.Barred refusal)
       → Keeps o a → NotesEnd k (end_act end') r a b → HasWrote k (Err refusal) steps r o b
   wrote_barred k refusal steps end' r o a b is keeps notes =
-      let act_is : end_act end' ≡ Ok (acts.Refused (why_of refusal)) =
-      ap end_act is ∙ barred_act refusal in
+      let act_is : end_act end' ≡ Ok (acts.Refused (why_of refusal)) = ap end_act is in
       let both : (r ≡ Ok tt) × Adds (refused k a.regs (why_of refusal)) a b =
       subst (λ (x : Result Act StepNo). NotesEnd k x r a b) act_is notes in
       record {
@@ -209,12 +198,7 @@ module _ {B : Type 0} where
         (h.items ++ note k o.regs acts.Wrote)) (sym notes.0)
         (record { did = h.items; follows = h.ran; is = refl });
   }
-  wrote_ran k row steps (Err ops.NoLabel) r o a b h notes = absurd h
-  wrote_ran k row steps (Err ops.Dangerous) r o a b h notes = absurd h
-  wrote_ran k row steps (Err ops.ReadOnly) r o a b h notes = absurd h
-  wrote_ran k row steps (Err ops.Encrypted) r o a b h notes = absurd h
-  wrote_ran k row steps (Err ops.Unaligned) r o a b h notes = absurd h
-  wrote_ran k row steps (Err ops.Range) r o a b h notes = absurd h
+  wrote_ran k row steps (Err (ops.Barred why)) r o a b h notes = absurd h
   wrote_ran k row steps (Err ops.Device) r o a b h notes = record {
     items = h.items;
     adds = subst (λ (z : Own B Did). Adds h.items o z) (sym notes.1) h.adds;
@@ -230,7 +214,7 @@ module _ {B : Type 0} where
 
   wrote_by : (k : ℕ) (checked : Result Row PartNo) (steps : List Step)
       (end' : Result (Unit {0}) OpNo) (r : Result (Unit {0}) StepNo) (o a b : Own B Did)
-      → IfErr checked (λ why. (end' ≡ Err (barred_by why)) × Keeps o a)
+      → IfErr checked (λ why. (end' ≡ Err (ops.Barred why)) × Keeps o a)
       → IfOk checked (λ _. HasChanged k steps end' o a) → NotesEnd k (end_act end') r a b
       → HasWrote k checked steps r o b
   wrote_by k (Ok row) steps end' r o a b barred ran notes =
@@ -265,7 +249,7 @@ module _ {B : Type 0} where
   pub write_acted : (rows : List Row) (k : ℕ) (label : ArrayVec ℕ) (offset : ℕ) (bytes : List ℕ)
       (end' : Result (Unit {0}) OpNo) (r : Result (Unit {0}) StepNo) (o a b : Own B Did)
       → IfErr (write_checked rows label.items offset (length bytes))
-      (λ why. (end' ≡ Err (barred_by why)) × Keeps o a)
+      (λ why. (end' ≡ Err (ops.Barred why)) × Keeps o a)
       → IfOk (write_checked rows label.items offset (length bytes))
       (λ _. HasChanged k (part_write_steps rows label.items offset bytes) end' o a)
       → NotesEnd k (end_act end') r a b
@@ -278,7 +262,7 @@ module _ {B : Type 0} where
   pub erase_acted : (rows : List Row) (k : ℕ) (label : ArrayVec ℕ) (offset len : ℕ)
       (end' : Result (Unit {0}) OpNo) (r : Result (Unit {0}) StepNo) (o a b : Own B Did)
       → IfErr (erase_checked rows label.items offset len)
-      (λ why. (end' ≡ Err (barred_by why)) × Keeps o a)
+      (λ why. (end' ≡ Err (ops.Barred why)) × Keeps o a)
       → IfOk (erase_checked rows label.items offset len)
       (λ _. HasChanged k (part_erase_steps rows label.items offset len) end' o a)
       → NotesEnd k (end_act end') r a b

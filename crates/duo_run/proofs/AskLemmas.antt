@@ -28,7 +28,7 @@ use Rattle.flash_ops.specs.declared.refusal.OpNo.{OpNo}
 use Rattle.flash_ops.specs.declared.refusal.OpNo.TheVariants as ops
 use Rattle.flash_ops.specs.Moves.{makes, bytes_for}
 use Rattle.flash_ops.specs.Asked.{GrantsAll, MayMakeAll, CanChange}
-use Rattle.flash_ops.specs.Told.{HasChanged, barred_by}
+use Rattle.flash_ops.specs.Told.{HasChanged}
 use Rattle.flash_ops.proofs.Can.{grants_first, grants_then}
 use Rattle.flash_ops.proofs.Runs.{bytes_for_makes, entries_for_makes, steps_of_makes}
 use Rattle.duo_run.specs.Worker.{HasLeft, HasWritten, action_steps, regs_after}
@@ -295,12 +295,7 @@ module _ {S K : Type 0} where
       → HasRoom a.base a.core a.share 1 0
   changed_room o a k n steps (Ok u) few room h =
       added_room o a h.items n steps few room (follows_needs k o.regs steps h.items h.ran) h.adds
-  changed_room o a k n steps (Err ops.NoLabel) few room h = absurd h
-  changed_room o a k n steps (Err ops.Dangerous) few room h = absurd h
-  changed_room o a k n steps (Err ops.ReadOnly) few room h = absurd h
-  changed_room o a k n steps (Err ops.Encrypted) few room h = absurd h
-  changed_room o a k n steps (Err ops.Unaligned) few room h = absurd h
-  changed_room o a k n steps (Err ops.Range) few room h = absurd h
+  changed_room o a k n steps (Err (ops.Barred why)) few room h = absurd h
   changed_room o a k n steps (Err ops.Device) few room h =
       added_room o a h.items n steps few room (stops_needs k o.regs _ steps h.items h.ran) h.adds
   changed_room o a k n steps (Err ops.Cut) few room h =
@@ -311,7 +306,7 @@ module _ {S K : Type 0} where
       (steps : List Step) (r : Result (Unit {0}) OpNo)
       → ((row : Row) → checked ≡ Ok row → length steps ≤ n)
       → HasRoom o.base o.core o.share (2 * n + 1) 0
-      → IfErr checked (λ why. (r ≡ Err (barred_by why)) × Keeps o a)
+      → IfErr checked (λ why. (r ≡ Err (ops.Barred why)) × Keeps o a)
       → IfOk checked (λ _. HasChanged k steps r o a) → HasRoom a.base a.core a.share 1 0
   end_room o a k n (Ok row) steps r few room barred ran =
       changed_room o a k n steps r (few row refl) room ran
@@ -336,7 +331,7 @@ module _ {S K P : Type 0} (part : K → ℕ → P) (grants : P → Step → Type
       (offset : ℕ) (bytes : List ℕ) (r : Result (Unit {0}) OpNo)
       → CanAct part grants moved rows (Write label offset bytes) o
       → IfErr (write_checked rows label.items offset (length bytes))
-      (λ why. (r ≡ Err (barred_by why)) × Keeps o a)
+      (λ why. (r ≡ Err (ops.Barred why)) × Keeps o a)
       → IfOk (write_checked rows label.items offset (length bytes))
       (λ _. HasChanged k (part_write_steps rows label.items offset bytes) r o a)
       → HasRoom a.base a.core a.share 1 0
@@ -352,7 +347,7 @@ module _ {S K P : Type 0} (part : K → ℕ → P) (grants : P → Step → Type
       (offset len : ℕ) (r : Result (Unit {0}) OpNo)
       → CanAct part grants moved rows (Erase label offset len) o
       → IfErr (erase_checked rows label.items offset len)
-      (λ why. (r ≡ Err (barred_by why)) × Keeps o a)
+      (λ why. (r ≡ Err (ops.Barred why)) × Keeps o a)
       → IfOk (erase_checked rows label.items offset len)
       (λ _. HasChanged k (part_erase_steps rows label.items offset len) r o a)
       → HasRoom a.base a.core a.share 1 0

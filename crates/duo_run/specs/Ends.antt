@@ -2,24 +2,18 @@
 use Rattle.std.specs.Prelude.{◌≡◌, ℕ, Result, Ok, Err}
 use Rattle.bus_hub.specs.declared.entry.Act.{Act}
 use Rattle.bus_hub.specs.declared.entry.Act.TheVariants as acts
-use Rattle.bus_hub.specs.declared.entry.Why.TheVariants as whys
 use Rattle.bus_hub.specs.declared.did.Did.{Did}
 use Rattle.cache_gate.specs.Own.{Own, Adds}
 use Rattle.flash_ops.specs.declared.refusal.OpNo.{OpNo}
 use Rattle.flash_ops.specs.declared.refusal.OpNo.TheVariants as ops
 use Rattle.flash_ops.specs.declared.refusal.StepNo.{StepNo}
 use Rattle.flash_ops.specs.declared.refusal.StepNo.TheVariants as steps
-use Rattle.duo_run.specs.Worker.{note}
+use Rattle.duo_run.specs.Worker.{note, why_of}
 
 -- what is noted of an end, or how the device ended it
 abbrev pub end_act : Result (Unit {0}) OpNo → Result Act StepNo
 end_act (Ok _) = Ok acts.Wrote
-end_act (Err ops.NoLabel) = Ok (acts.Refused whys.NoLabel)
-end_act (Err ops.Dangerous) = Ok (acts.Refused whys.Dangerous)
-end_act (Err ops.ReadOnly) = Ok (acts.Refused whys.ReadOnly)
-end_act (Err ops.Encrypted) = Ok (acts.Refused whys.Encrypted)
-end_act (Err ops.Unaligned) = Ok (acts.Refused whys.Unaligned)
-end_act (Err ops.Range) = Ok (acts.Refused whys.Range)
+end_act (Err (ops.Barred why)) = Ok (acts.Refused (why_of why))
 end_act (Err ops.Device) = Err steps.Device
 end_act (Err ops.Cut) = Err steps.Cut
 

@@ -5,7 +5,7 @@ ghost use Rattle.partition_table.specs.declared.row.Row.{Row};
 ghost use Rattle.core_script.specs.declared.action.Action.TheVariants.{Fetch, Mask, Irq, Map, Unmap, Write, Erase};
 ghost use Rattle.cache_gate.specs.Own.{HasRoom};
 ghost use Rattle.flash_ops.specs.Told.{fault_of};
-ghost use Rattle.duo_run.specs.Worker.{mapped_act, unmapped_act};
+ghost use Rattle.duo_run.specs.Worker.{mapped_act, unmapped_act, why_of};
 ghost use Rattle.duo_run.specs.Works.{CanAct, HasActed};
 ghost use Rattle.duo_run.specs.Ends.{NotesEnd, end_act};
 
@@ -15,6 +15,7 @@ use core_script::{Action, Label};
 use core_state::Regs;
 use crash_images::Crash;
 use flash_ops::{OpNo, StepNo, part_erase, part_write};
+use flash_steps::PartNo;
 use image_layout::Space;
 use mmu_map::{NoPages, NotMapped};
 use nor_device::Page;
@@ -148,18 +149,26 @@ fn unmap<'w, R: Wait, D: Crash, K: Duty>(
 fn told(end: Result<(), OpNo>) -> Result<Act, StepNo>
     ensures exact { result ≡ end_act end }
 {
-    let why = match end {
-        Ok(()) => return Ok(Act::Wrote),
-        Err(OpNo::NoLabel) => Why::NoLabel,
-        Err(OpNo::Dangerous) => Why::Dangerous,
-        Err(OpNo::ReadOnly) => Why::ReadOnly,
-        Err(OpNo::Encrypted) => Why::Encrypted,
-        Err(OpNo::Unaligned) => Why::Unaligned,
-        Err(OpNo::Range) => Why::Range,
-        Err(OpNo::Device) => return Err(StepNo::Device),
-        Err(OpNo::Cut) => return Err(StepNo::Cut),
-    };
-    Ok(Act::Refused { why })
+    match end {
+        Ok(()) => Ok(Act::Wrote),
+        Err(OpNo::Barred(no)) => Ok(Act::Refused { why: why_of(no) }),
+        Err(OpNo::Device) => Err(StepNo::Device),
+        Err(OpNo::Cut) => Err(StepNo::Cut),
+    }
+}
+
+/// What is noted of the rule that is against a write or an erase.
+fn why_of(no: PartNo) -> Why
+    ensures exact { result ≡ why_of no }
+{
+    match no {
+        PartNo::NoLabel => Why::NoLabel,
+        PartNo::Dangerous => Why::Dangerous,
+        PartNo::ReadOnly => Why::ReadOnly,
+        PartNo::Encrypted => Why::Encrypted,
+        PartNo::Unaligned => Why::Unaligned,
+        PartNo::Range => Why::Range,
+    }
 }
 
 /// Notes the end of a write or an erase, unless the device ended it.

@@ -25,7 +25,7 @@ use Rattle.flash_ops.specs.declared.refusal.OpNo.{OpNo}
 use Rattle.flash_ops.specs.declared.refusal.OpNo.TheVariants as ops
 use Rattle.flash_ops.specs.Moves.{Move, HasRun, makes}
 use Rattle.flash_ops.specs.Asked.{CanChange, CanMakeMoves}
-use Rattle.flash_ops.specs.Told.{HasChanged, barred_by, fault_of, unbarred}
+use Rattle.flash_ops.specs.Told.{HasChanged, fault_of, unbarred}
 use Rattle.flash_ops.proofs.Runs.{bytes_for_makes, entries_for_makes}
 use Rattle.flash_ops.proofs.Can.{room_less, run_spends}
 use Rattle.flash_ops.proofs.Pieces.{no_pages, pages_are}
@@ -167,12 +167,7 @@ module _ {S K : Type 0} (k : ℕ) (steps : List Step) (o p : Own (Base S K) Did)
 
   changed_spends : (r : Result (Unit {0}) OpNo) → HasChanged k steps r o p → Spends n 0 o p
   changed_spends (Ok u) run = moves_spend (Ok tt) run
-  changed_spends (Err ops.NoLabel) run = absurd run
-  changed_spends (Err ops.Dangerous) run = absurd run
-  changed_spends (Err ops.ReadOnly) run = absurd run
-  changed_spends (Err ops.Encrypted) run = absurd run
-  changed_spends (Err ops.Unaligned) run = absurd run
-  changed_spends (Err ops.Range) run = absurd run
+  changed_spends (Err (ops.Barred why)) run = absurd run
   changed_spends (Err ops.Device) run = moves_spend (Err Failed) run
   changed_spends (Err ops.Cut) run = moves_spend (Err Off) run
 
@@ -187,7 +182,7 @@ module _ {S K : Type 0} (k : ℕ) (steps : List Step) (o p : Own (Base S K) Did)
 
   -- what a write or an erase of a partition spends of the room, by whatever answer
   pub part_spends : (checked : Result Row PartNo) (r : Result (Unit {0}) OpNo)
-      → IfErr checked (λ why. (r ≡ Err (barred_by why)) × Keeps o p)
+      → IfErr checked (λ why. (r ≡ Err (ops.Barred why)) × Keeps o p)
       → IfOk checked (λ _. HasChanged k steps r o p) → Spends n 0 o p
   part_spends (Ok row) r barred ran = changed_spends r ran
   part_spends (Err why) r barred ran = kept_spends barred.1

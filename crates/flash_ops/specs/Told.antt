@@ -3,8 +3,6 @@ use Rattle.std.specs.Prelude.{◌≡◌, ℕ, zero, suc, ◌+◌, ◌-◌, ◌^�
 use Rattle.nor_device.specs.declared.step.Step.{Step}
 use Rattle.nor_device.specs.declared.nor.NorFault.{NorFault}
 use Rattle.nor_device.specs.declared.nor.NorFault.TheVariants.{Failed, Off}
-use Rattle.flash_steps.specs.declared.refusal.PartNo.{PartNo}
-use Rattle.flash_steps.specs.declared.refusal.PartNo.TheVariants as parts
 use Rattle.bus_hub.specs.declared.did.Did.{Did}
 use Rattle.cache_gate.specs.Own.{Own}
 use Rattle.flash_ops.specs.declared.pace.Point.{Point}
@@ -27,15 +25,6 @@ abbrev pub LooksBehind : {B : Type 0} → ℕ → Option ℕ → Result (Unit {0
 LooksBehind k probe (Ok _) r o o' = HasRun k (looks probe) r o o'
 LooksBehind k probe (Err why) r o o' = (r ≡ Err why) × (o' ≡ o)
 
--- why a write or an erase of a partition is refused, as an answer
-abbrev pub barred_by : PartNo → OpNo
-barred_by parts.NoLabel = ops.NoLabel
-barred_by parts.Dangerous = ops.Dangerous
-barred_by parts.ReadOnly = ops.ReadOnly
-barred_by parts.Encrypted = ops.Encrypted
-barred_by parts.Unaligned = ops.Unaligned
-barred_by parts.Range = ops.Range
-
 -- an answer where no rule was against it
 abbrev pub unbarred : Result (Unit {0}) StepNo → Result (Unit {0}) OpNo
 unbarred (Ok _) = Ok tt
@@ -47,12 +36,7 @@ unbarred (Err Cut) = Err ops.Cut
 abbrev pub HasChanged : {B : Type 0} → ℕ → List Step → Result (Unit {0}) OpNo → Own B Did
     → Own B Did → Type 0
 HasChanged k steps (Ok _) o o' = HasRun k (makes steps) (Ok tt) o o'
-HasChanged k steps (Err ops.NoLabel) o o' = ⊥
-HasChanged k steps (Err ops.Dangerous) o o' = ⊥
-HasChanged k steps (Err ops.ReadOnly) o o' = ⊥
-HasChanged k steps (Err ops.Encrypted) o o' = ⊥
-HasChanged k steps (Err ops.Unaligned) o o' = ⊥
-HasChanged k steps (Err ops.Range) o o' = ⊥
+HasChanged k steps (Err (ops.Barred why)) o o' = ⊥
 HasChanged k steps (Err ops.Device) o o' = HasRun k (makes steps) (Err Failed) o o'
 HasChanged k steps (Err ops.Cut) o o' = HasRun k (makes steps) (Err Off) o o'
 

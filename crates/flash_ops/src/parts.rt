@@ -7,7 +7,7 @@ ghost use Rattle.flash_steps.specs.Steps.{erase_steps, write_steps};
 ghost use Rattle.flash_steps.specs.Rules.{erase_checked, write_checked};
 ghost use Rattle.flash_ops.specs.Asked.{CanChange};
 ghost use Rattle.flash_ops.specs.Periods.{HasPeriods, erase_periods, write_periods};
-ghost use Rattle.flash_ops.specs.Told.{HasChanged, barred_by, unbarred};
+ghost use Rattle.flash_ops.specs.Told.{HasChanged, unbarred};
 
 use crate::erasing::erase;
 use crate::pace::{Beat, NoPace};
@@ -16,7 +16,7 @@ use crate::writing::write;
 use bus_hub::Duty;
 use cache_gate::Core;
 use crash_images::Crash;
-use flash_steps::{PartNo, check_erase, check_write};
+use flash_steps::{check_erase, check_write};
 use partition_table::Table;
 use std::sync::Wait;
 
@@ -34,7 +34,7 @@ pub fn part_write<'w, R: Wait, D: Crash, K: Duty>(
         (λ row. CanChange K.part K.grants K.moved (row.offset + offset) (length bytes.now)
         (part_write_steps table.now label.now offset bytes.now) core) }
     ensures barred { IfErr (write_checked table.now label.now offset (length bytes.now))
-        (λ why. (result.1 ≡ Err (barred_by why)) × Keeps core.entry result.0) }
+        (λ why. (result.1 ≡ Err (OpNo.Barred why)) × Keeps core.entry result.0) }
     ensures ran { IfOk (write_checked table.now label.now offset (length bytes.now))
         (λ _. HasChanged k (part_write_steps table.now label.now offset bytes.now) result.1
         core.entry result.0) }
@@ -45,7 +45,7 @@ pub fn part_write<'w, R: Wait, D: Crash, K: Duty>(
 {
     match check_write(table, label, offset, bytes.len()) {
         Ok(row) => write_at(rt, core, k, row.offset + offset, bytes),
-        Err(why) => (core, Err(barred(why))),
+        Err(why) => (core, Err(OpNo::Barred(why))),
     }
 }
 
@@ -66,7 +66,7 @@ pub fn part_erase<'w, R: Wait, D: Crash, K: Duty>(
     requires sector { IfOk (erase_checked table.now label.now offset len)
         (λ row. row.offset % 4096 ≡ 0) }
     ensures barred { IfErr (erase_checked table.now label.now offset len)
-        (λ why. (result.1 ≡ Err (barred_by why)) × Keeps core.entry result.0) }
+        (λ why. (result.1 ≡ Err (OpNo.Barred why)) × Keeps core.entry result.0) }
     ensures ran { IfOk (erase_checked table.now label.now offset len)
         (λ _. HasChanged k (part_erase_steps table.now label.now offset len) result.1
         core.entry result.0) }
@@ -77,7 +77,7 @@ pub fn part_erase<'w, R: Wait, D: Crash, K: Duty>(
 {
     match check_erase(table, label, offset, len) {
         Ok(row) => erase_at(rt, core, k, row.offset + offset, len),
-        Err(why) => (core, Err(barred(why))),
+        Err(why) => (core, Err(OpNo::Barred(why))),
     }
 }
 
@@ -132,19 +132,5 @@ fn changed(made: Result<(), StepNo>) -> Result<(), OpNo>
         Ok(()) => Ok(()),
         Err(StepNo::Device) => Err(OpNo::Device),
         Err(StepNo::Cut) => Err(OpNo::Cut),
-    }
-}
-
-/// The answer where a rule was against it.
-fn barred(why: PartNo) -> OpNo
-    ensures exact { result ≡ barred_by why }
-{
-    match why {
-        PartNo::NoLabel => OpNo::NoLabel,
-        PartNo::Dangerous => OpNo::Dangerous,
-        PartNo::ReadOnly => OpNo::ReadOnly,
-        PartNo::Encrypted => OpNo::Encrypted,
-        PartNo::Unaligned => OpNo::Unaligned,
-        PartNo::Range => OpNo::Range,
     }
 }

@@ -15,18 +15,8 @@ pub enum StepNo {
 /// Why a partition was not written or erased, or not to its end: the first reason in this order.
 #[derive(Clone, Copy, Debug, PartialEq, Eq)]
 pub enum OpNo {
-    /// No partition has this label.
-    NoLabel,
-    /// The partition has an application, or the OTA data: what is started would be lost.
-    Dangerous,
-    /// The partition is flagged readonly.
-    ReadOnly,
-    /// The partition is flagged encrypted.
-    Encrypted,
-    /// Only sectors can be erased, and the range is not made of sectors.
-    Unaligned,
-    /// The range leaves the partition.
-    Range,
+    /// A rule is against it; nothing is written or erased.
+    Barred(PartNo),
     /// The device failed.
     Device,
     /// The power is off.

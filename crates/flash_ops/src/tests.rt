@@ -12,6 +12,7 @@ use bus_hub::{Act, AnyPart, Bus, Duty, Entry, Journal, Room};
 use cache_gate::{Core, Ended, Gates, open};
 use core_state::Regs;
 use crash_images::Crash;
+use flash_steps::PartNo;
 use mmu_map::Pages;
 use nor_device::{RamNor, Step, StepEnd};
 use partition_table::{Row, Table, padded_label};
@@ -368,7 +369,12 @@ fn changed<R: Wait>(
 fn partitions_are_changed_or_refused(rt: HostRuntime) -> Result<(), Fail> {
     let table = table()?;
     let (journal, answers) = changed(&rt, rt.alloc(), &table).ok_or("changed")?;
-    let want = [Ok(()), Ok(()), Err(OpNo::Dangerous), Err(OpNo::NoLabel)];
+    let want = [
+        Ok(()),
+        Ok(()),
+        Err(OpNo::Barred(PartNo::Dangerous)),
+        Err(OpNo::Barred(PartNo::NoLabel)),
+    ];
     assert_eq!(rt; answers, want, "answers");
     assert_eq!(rt; journal.entries().len(), 4, "begin and end of two steps");
     Ok(())
