@@ -8,9 +8,19 @@ use Rattle.nor_device.specs.declared.nor.NorFault.{NorFault}
 use Rattle.nor_device.specs.declared.nor.NorFault.TheVariants as faults
 use Rattle.nor_device.specs.Nor.{end_by}
 use Rattle.crash_images.specs.declared.cut.CutSetting.{CutSetting}
+use Rattle.crash_images.specs.declared.cut.Health.{Health}
+use Rattle.crash_images.specs.declared.cut.Health.TheVariants.{Sound, Due, Off, Failed}
 use Rattle.crash_images.specs.Tear.{torn_by}
 use Rattle.crash_images.specs.TearStep.{MayRefuse}
-use Rattle.crash_images.specs.Cut.{IsAhead, NotBoth, IsBad, EndsBy, CutMayEnd, CutMayTear, CutMayRefuse}
+use Rattle.crash_images.specs.Cut.{running_by, IsAhead, NotBoth, IsBad, EndsBy, CutMayEnd, CutMayTear, CutMayRefuse}
+
+-- where no step runs, none runs inside
+pub idle_inside : (health : Health) (inner : Option Step) → running_by health inner ≡ None
+    → inner ≡ None
+idle_inside Sound inner idle = idle
+idle_inside (Due step) inner idle = absurd (cc idle)
+idle_inside Off inner idle = idle
+idle_inside Failed inner idle = idle
 
 -- no step is refused so that it is done
 never_done : (why : NorFault) → end_by why ≡ ends.Done → ⊥

@@ -79,10 +79,12 @@ impl<D: Nor> CutNor<D> {
 
     /// The device with its power on: it answers again. Its bytes, the number of steps and the tear
     /// number stay, and a chosen step that has come is spent.
+    #[tactic(auto, using(crate::proofs::CutLaws::idle_inside))]
     pub fn restart(self) -> CutNor<D>
         requires idle { running_by self.health (D.running self.inner) ≡ None }
         requires on { D.off self.inner ≡ false }
         ensures exact { result ≡ restarted self }
+        ensures idle { D.running result.inner ≡ None }
     {
         CutNor {
             cut: unspent(self.cut, self.steps),
@@ -119,9 +121,11 @@ impl<D: Nor> CutNor<D> {
     }
 
     /// Gives the device inside back.
+    #[tactic(auto, using(crate::proofs::CutLaws::idle_inside))]
     pub fn into_inner(self) -> D
         requires idle { running_by self.health (D.running self.inner) ≡ None }
         ensures exact { result ≡ self.inner }
+        ensures idle { D.running result ≡ None }
     {
         let CutNor {
             inner,

@@ -3,12 +3,15 @@
 ghost use Rattle.std.specs.Prelude.{◌≡◌, ◌⊎◌, ◌↔◌, ℕ, ◌-◌, ◌<◌, ◌≤◌, All, List, ◌∷◌, ◌++◌, [], Option, None, Some, length, slice_index};
 ghost use Rattle.nor_device.specs.declared.step.Step.{Step};
 ghost use Rattle.nor_device.specs.declared.nor.StepEnd.{StepEnd};
+ghost use Rattle.nor_device.specs.declared.nor.StepEnd.TheVariants as ends;
 ghost use Rattle.nor_device.specs.declared.nor.NorFault.{NorFault};
+ghost use Rattle.nor_device.specs.declared.nor.NorFault.TheVariants as faults;
 ghost use Rattle.nor_device.specs.Flash.{start_of, end_of, applied, after_steps};
 ghost use Rattle.nor_device.specs.Torn.{Torn};
 ghost use Rattle.nor_device.specs.Nor.{end_by};
 ghost use Rattle.nor_device.specs.Make.{IsAfter, IsTornBy};
 ghost use Rattle.crash_images.specs.declared.cut.CutSetting.{CutSetting};
+ghost use Rattle.crash_images.specs.declared.flaky.FlakySetting.{FlakySetting};
 ghost use Rattle.crash_images.specs.Tear.{torn_by, torn_byte_of, data_byte_of, is_erase};
 ghost use Rattle.crash_images.specs.Crash.{LeftAfter, IsAfterAll, IsLeftOf};
 ghost use Rattle.crash_images.specs.Agrees.{Agrees, IsBeside, StepsWithin};
@@ -16,6 +19,7 @@ ghost use Rattle.crash_images.specs.Cut.{EndsBy, IsBad, NotBoth};
 
 use crate::crash::Crash;
 use crate::cut::CutNor;
+use crate::flaky::FlakyNor;
 use nor_device::{Nor, RamNor};
 
 /// The flash that a tear number names is a torn one; its bytes are the torn bytes in the step's range,
@@ -81,6 +85,14 @@ pub fn power_loss_leaves<D: Crash>(device: &D)
     let _ = device;
 }
 
+/// After a step that was made whole a device need not refuse a call.
+pub fn device_goes_on<D: Crash>(device: &D)
+    ensures goes_on { (n : ℕ) → D.may_end (D.setting device.now) n ends.Done
+        → ¬ D.must_refuse (D.setting device.now) n }
+{
+    let _ = device;
+}
+
 /// The setting of a `CutNor` over a `RamNor`: each step number has one end up to the chosen one, and none
 /// after it; a refused poll leaves the flash of the tear number; a read or start is refused after the
 /// chosen step alone, and so as that step was.
@@ -94,6 +106,21 @@ pub fn setting_of_cut_nor_over_ram_nor()
         → ⟦<CutNor<RamNor> as Nor>⟧.may_refuse set n why ↔ EndsBy set.cut set.fail n (end_by why) }
     ensures stops { (set : CutSetting (Unit {0})) (n : ℕ)
         → ⟦<CutNor<RamNor> as Nor>⟧.must_refuse set n ↔ IsBad set.cut set.fail n }
+{}
+
+/// The setting of a `FlakyNor` over a `RamNor`: a step is made whole, and may end so in the poll that fails; no other
+/// flash is left, no other call is refused, and none need be.
+pub fn setting_of_flaky_nor_over_ram_nor()
+    ensures ends { (set : FlakySetting (Unit {0})) (n : ℕ) (end : StepEnd)
+        → ⟦<FlakyNor<RamNor> as Nor>⟧.may_end set n end
+        ↔ ((end ≡ ends.Done) ⊎ ((1 ≤ set.at) × (end ≡ ends.Failed))) }
+    ensures tears { (set : FlakySetting (Unit {0})) (n : ℕ) (flash : List ℕ) (step : Step) (left : List ℕ)
+        → ⟦<FlakyNor<RamNor> as Nor>⟧.may_tear set n flash step left
+        ↔ ((1 ≤ set.at) × (left ≡ applied flash step)) }
+    ensures refuses { (set : FlakySetting (Unit {0})) (n : ℕ) (why : NorFault)
+        → ⟦<FlakyNor<RamNor> as Nor>⟧.may_refuse set n why ↔ ((1 ≤ set.at) × (why ≡ faults.Failed)) }
+    ensures stops { (set : FlakySetting (Unit {0})) (n : ℕ)
+        → ¬ ⟦<FlakyNor<RamNor> as Nor>⟧.must_refuse set n }
 {}
 
 /// Where at most one step is chosen, no step number has two ends, and none after the chosen one has any.

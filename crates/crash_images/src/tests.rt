@@ -89,6 +89,7 @@ fn a_cut_tears_its_step_and_a_restart_reads_it(rt: HostRuntime) -> Result<(), Fa
     assert_eq!(rt; byte, [0xFF], "the byte that was to be programmed");
     assert_eq!(rt; device.steps(), 2, "the steps");
     power_loss_leaves(&device);
+    device_goes_on(&device);
     Ok(())
 }
 
@@ -159,18 +160,21 @@ fn first_wrong(bytes: &[u8], tear: u64) -> Option<usize> {
     None
 }
 
+/// A flash of 00 whose block 1 is torn so; no bytes where its first poll is not refused.
+fn torn_block(alloc: Global, tear: u64) -> Result<Vec<u8>, Fail> {
+    let inner = RamNor::of_bytes(filled(alloc, 0, SIZE)?, 0);
+    let mut device = CutNor::new(inner, Some(1), tear, None);
+    device.start(&Step::Block { block: 1 })?;
+    match device.poll() {
+        Ok(_) => Ok(Vec::new(alloc)),
+        Err(_) => Ok(device.restart().into_inner().into_bytes()),
+    }
+}
+
 #[test]
 fn a_torn_block_has_the_masks_of_its_tear_number(rt: HostRuntime) -> Result<(), Fail> {
     for tear in [0, 0xFFFF, 0x1000, WIDE_WINDOW] {
-        let inner = RamNor::of_bytes(filled(rt.alloc(), 0, SIZE)?, 0);
-        let mut device = CutNor::new(inner, Some(1), tear, None);
-        device.start(&Step::Block { block: 1 })?;
-        assert_eq!(rt;
-            device.poll(),
-            Err(NorFault::Off),
-            "the first poll, tear {tear}"
-        );
-        let bytes = device.restart().into_inner().into_bytes();
+        let bytes = torn_block(rt.alloc(), tear)?;
         assert_eq!(rt; first_wrong(&bytes, tear), None, "the block, tear {tear}");
         for at in [65_535, 131_072] {
             assert_eq!(rt;
@@ -196,19 +200,21 @@ fn a_torn_byte_of_a_block_has_its_place_in_the_block(rt: HostRuntime) {
     }
 }
 
-#[test]
-fn what_is_refused_between_two_sectors_is_handed_on(rt: HostRuntime) -> Result<(), Fail> {
-    let ram = RamNor::of_bytes(filled(rt.alloc(), 0, SIZE)?, 0);
-    // An erase and 16 programs a sector: the erase of the second sector is step 18 inside.
-    let inner = CutNor::new(ram, Some(18), 0, None);
+/// A flash of 00 whose block 1 is torn, where the call of this number fails inside; no bytes where the first poll is not refused.
+fn block_refused_inside(alloc: Global, call: u64) -> Result<Vec<u8>, Fail> {
+    let inner = FlakyNor::new(RamNor::of_bytes(filled(alloc, 0, SIZE)?, 0), call);
     let mut device = CutNor::new(inner, Some(1), 0x0F0F, None);
     device.start(&Step::Block { block: 1 })?;
-    assert_eq!(rt;
-        device.poll(),
-        Err(NorFault::Off),
-        "the power goes off inside"
-    );
-    let bytes = device.into_inner().restart().into_inner().into_bytes();
+    match device.poll() {
+        Err(NorFault::Failed) => Ok(device.into_inner().into_inner().into_bytes()),
+        _ => Ok(Vec::new(alloc)),
+    }
+}
+
+#[test]
+fn what_is_refused_between_two_sectors_is_handed_on(rt: HostRuntime) -> Result<(), Fail> {
+    // A read as the step begins, and 35 calls a sector: a read, an erase and 16 programs. Call 38 begins the second erase.
+    let bytes = block_refused_inside(rt.alloc(), 38)?;
     for (at, want) in [(65_536, 0x0F), (69_631, 0x0F), (69_632, 0), (131_071, 0)] {
         assert_eq!(rt; bytes.get(at), Some(&want), "at {at}");
     }
