@@ -1,0 +1,5 @@
+mod Bits
+mod Runs
+mod OneStep
+mod Kept
+mod Ends
