@@ -11,7 +11,8 @@ use Rattle.duo_machine.specs.declared.events.Kind.TheVariants as kinds
 use Rattle.bus_hub.specs.declared.did.Did.{Did}
 use Rattle.cache_gate.specs.Own.{Own, HasShown, HasShownStep}
 use Rattle.cache_gate.proofs.Walks.{works_first, works_last, works_none, works_then}
-use Rattle.flash_steps.specs.Steps.{write_steps}
+use Rattle.flash_steps.specs.Steps.{erase_steps, write_steps}
+use Rattle.flash_steps.proofs.EraseLemmas.{count_of_erase}
 use Rattle.flash_steps.proofs.WriteLemmas.{count_of_write, pieces_of_write, no_steps}
 use Rattle.flash_ops.specs.declared.refusal.StepNo.{StepNo}
 use Rattle.flash_ops.specs.declared.refusal.OpNo.{OpNo}
@@ -308,10 +309,12 @@ write_periods_cut at bytes first rest some front back =
     ∙ (λ i. length (write_steps at (sym front i))
     ∷ write_periods (at + length (sym front i)) (sym back i))
 
-pub erase_periods_all : (len : ℕ) → replicate (len / 4096 - 0) 1 ≡ erase_periods len
+pub erase_periods_all : (at len : ℕ) → replicate (len / 4096 - 0) 1 ≡ erase_periods at len
 unfolding erase_periods
-erase_periods_all len =
-    let all : len / 4096 - 0 ≡ len / 4096 = omega arith in ap (λ (n : ℕ). replicate n 1) all
+erase_periods_all at len =
+    let count = count_of_erase at len in
+    let all : len / 4096 - 0 ≡ length (erase_steps at len) = omega (arith, count) in
+    ap (λ (n : ℕ). replicate n 1) all
 
 pub sector_period : (count i : ℕ) → i < count
     → replicate {A = ℕ} (count - i) 1 ≡ 1 ∷ replicate {A = ℕ} (count - (i + 1)) 1

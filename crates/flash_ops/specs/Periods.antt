@@ -2,7 +2,7 @@
 use Rattle.std.specs.Prelude.{◌≡◌, ℕ, zero, suc, ◌+◌, ◌/◌, ◌%◌, ◌≤◌, List, [], ◌∷◌, ◌++◌, length, replicate, Result, Ok, Err, ◌⊎◌}
 use Rattle.duo_machine.specs.declared.events.Kind.{Kind}
 use Rattle.duo_machine.specs.declared.events.Kind.TheVariants as kinds
-use Rattle.flash_steps.specs.Steps.{write_steps}
+use Rattle.flash_steps.specs.Steps.{erase_steps, write_steps}
 use Rattle.cache_gate.specs.Own.{Own, HasShown}
 
 -- so many steps, one after the other
@@ -32,9 +32,9 @@ by_sixteens n = replicate (n / 16) 16 ++ if_some (n % 16)
 unfoldable pub write_periods : ℕ → List ℕ → List ℕ
 write_periods at bytes = by_sixteens (length (write_steps at bytes))
 
--- an erase of so many bytes: one step for each sector
-unfoldable pub erase_periods : ℕ → List ℕ
-erase_periods len = replicate (len / 4096) 1
+-- an erase of so many bytes from an address on: each of its steps
+unfoldable pub erase_periods : ℕ → ℕ → List ℕ
+erase_periods at len = replicate (length (erase_steps at len)) 1
 
 -- a read of so many bytes: no step, for each 4096 of them and for the rest
 unfoldable pub read_periods : ℕ → List ℕ

@@ -1,8 +1,9 @@
 //! Erases: each sector in a quiet period of its own.
 
-ghost use Rattle.std.specs.Prelude.{◌≡◌, ◌+◌, ◌/◌, ◌%◌, ◌*◌, ◌≤◌, ◌<◌, ◌^◌, [], ◌∷◌, OnOk};
+ghost use Rattle.std.specs.Prelude.{◌≡◌, ◌+◌, ◌%◌, ◌*◌, ◌≤◌, ◌<◌, ◌^◌, [], ◌∷◌, OnOk, length};
 ghost use Rattle.nor_device.specs.declared.step.Step.TheVariants.{Erase};
 ghost use Rattle.cache_gate.specs.Own.{IsInside};
+ghost use Rattle.flash_steps.specs.Steps.{erase_steps};
 ghost use Rattle.flash_ops.specs.Moves.{HasRun, Make, erase_moves, looks};
 ghost use Rattle.flash_ops.specs.Asked.{CanMakeMoves};
 ghost use Rattle.flash_ops.specs.Periods.{HasPeriod, HasPeriods, erase_periods};
@@ -41,8 +42,8 @@ pub fn erase<'w, R: Wait, D: Crash, K: Duty, P: Pace>(
     ensures ran { HasRun k (erase_moves beat.old.probe at len) (fault_of result.1) core.entry result.0 }
     ensures probe { beat.new.probe ≡ beat.old.probe }
     ensures pace { beat.new.pace ≡ beat.old.pace }
-    ensures ops { CountsPeriods (len / 4096) result.1 beat.old.ops beat.new.ops }
-    ensures periods { HasPeriods (erase_periods len) result.1 core.entry result.0 }
+    ensures ops { CountsPeriods (length (erase_steps at len)) result.1 beat.old.ops beat.new.ops }
+    ensures periods { HasPeriods (erase_periods at len) result.1 core.entry result.0 }
     ensures told { ToldOf (P.told beat.old.pace.now) beat.old.ops beat.new.ops }
 {
     let mut core = core;

@@ -73,7 +73,7 @@ pub fn part_erase<'w, R: Wait, D: Crash, K: Duty>(
     ensures shows { IfErr (erase_checked table.now label.now offset len)
         (λ _. HasShown [] core.entry result.0) }
     ensures periods { IfOk (erase_checked table.now label.now offset len)
-        (λ _. HasPeriods (erase_periods len) result.1 core.entry result.0) }
+        (λ row. HasPeriods (erase_periods (row.offset + offset) len) result.1 core.entry result.0) }
 {
     match check_erase(table, label, offset, len) {
         Ok(row) => erase_at(rt, core, k, row.offset + offset, len),
@@ -113,7 +113,7 @@ fn erase_at<'w, R: Wait, D: Crash, K: Duty>(
     requires can { CanChange K.part K.grants K.moved at len (erase_steps at len) core }
     requires aligned { (at % 4096 ≡ 0) × (len % 4096 ≡ 0) }
     ensures ran { HasChanged k (erase_steps at len) result.1 core.entry result.0 }
-    ensures periods { HasPeriods (erase_periods len) result.1 core.entry result.0 }
+    ensures periods { HasPeriods (erase_periods at len) result.1 core.entry result.0 }
 {
     let mut beat = Beat {
         pace: &NoPace,

@@ -9,6 +9,8 @@ use Rattle.flash_ops.proofs.Can.{can_first, can_then}
 use Rattle.flash_ops.proofs.Pieces.{all_sectors, next_sector, no_sector, sectors_left}
 use Rattle.flash_ops.proofs.Counts.{counting_all, counting_none, counting_one, counting_stops}
 use Rattle.flash_ops.specs.Periods.{HasPeriod, erase_periods}
+use Rattle.flash_ops.specs.Told.{CountsPeriods}
+use Rattle.flash_steps.proofs.EraseLemmas.{count_of_erase}
 use Rattle.flash_ops.proofs.PeriodLemmas.{erase_periods_all, no_sector_period, passed_all, passed_none, passed_one, passed_stops, sector_period}
 use Rattle.flash_ops.proofs.Telling.{told_none, told_then}
 use Rattle.flash_ops.proofs.erasing.erase.Goals as goal
@@ -31,8 +33,8 @@ loop-i-init g c =
       probe = refl;
       pace = refl;
       ops = counting_none count (count - 0) c.args.beat.now.ops all;
-      passed = passed_none (erase_periods c.args.len) (replicate (count - 0) 1) c.args.core
-          (erase_periods_all c.args.len);
+      passed = passed_none (erase_periods c.args.at c.args.len) (replicate (count - 0) 1) c.args.core
+          (erase_periods_all c.args.at c.args.len);
       told = told_none (g.P.Pace.told c.args.beat.now.pace.now) c.args.beat.now.ops c.args.beat.now.ops refl;
     }
 
@@ -82,10 +84,12 @@ returns-in-Err-clause-ops g c =
     let count = c.args.len / 4096 in
     let within = c.loop-i-test.true in
     let more : count - i ≡ suc (count - (i + 1)) = omega arith in
-    counting_stops count (count - (i + 1)) c.args.beat.now.ops c.erase_period-next.new.beat.ops
+    subst (λ (n : ℕ). CountsPeriods n c.answer.result c.args.beat.now.ops
+    c.erase_period-next.new.beat.ops) (sym (count_of_erase c.args.at c.args.len))
+    (counting_stops count (count - (i + 1)) c.args.beat.now.ops c.erase_period-next.new.beat.ops
     c.answer.result c.in-Err.why c.answer.ensures.exact
     (counting_one count (count - i) (count - (i + 1)) c.args.beat.now.ops c.loop-i.beat.ops
-    c.erase_period-next.new.beat.ops more inv.ops c.erase_period-next.ensures.ops)
+    c.erase_period-next.new.beat.ops more inv.ops c.erase_period-next.ensures.ops))
 
 -- in its quiet period
 pub returns-in-Err-clause-periods : goal.returns-in-Err-clause-periods
@@ -94,7 +98,7 @@ returns-in-Err-clause-periods g c =
     let next = c.erase_period-next.result.0 in
     let i = c.loop-i.i in
     let count = c.args.len / 4096 in
-    passed_stops (erase_periods c.args.len) (replicate (count - i) 1)
+    passed_stops (erase_periods c.args.at c.args.len) (replicate (count - i) 1)
     (replicate (count - (i + 1)) 1) 1 c.answer.result c.in-Err.why c.args.core core next
     c.answer.ensures.exact (sector_period count i c.loop-i-test.true) c.loop-i.invariant.passed
     (subst (λ (z : Result (Unit {0}) NorFault). HasPeriod 1 z core next) c.in-Err.is
@@ -140,7 +144,7 @@ loop-i-preserved g c =
       pace = c.erase_period-next.ensures.pace ∙ inv.pace;
       ops = counting_one count (count - i) (count - (i + 1)) c.args.beat.now.ops c.loop-i.beat.ops
           c.erase_period-next.new.beat.ops more inv.ops c.erase_period-next.ensures.ops;
-      passed = passed_one (erase_periods c.args.len) (replicate (count - i) 1)
+      passed = passed_one (erase_periods c.args.at c.args.len) (replicate (count - i) 1)
           (replicate (count - (i + 1)) 1) 1 c.args.core core next (sector_period count i within)
           inv.passed
           (subst (λ (z : Result (Unit {0}) NorFault). HasPeriod 1 z core next) c.in_default.is
@@ -166,12 +170,14 @@ pub returns-clause-ops : goal.returns-clause-ops
 returns-clause-ops g c =
     let count = c.args.len / 4096 in
     let none : count - c.loop-i.i ≡ 0 = omega (arith, c.loop-i-test.false) in
-    counting_all count (count - c.loop-i.i) c.args.beat.now.ops c.loop-i.beat.ops none
-    c.loop-i.invariant.ops
+    subst (λ (n : ℕ). CountsPeriods n (Ok tt) c.args.beat.now.ops c.loop-i.beat.ops)
+    (sym (count_of_erase c.args.at c.args.len))
+    (counting_all count (count - c.loop-i.i) c.args.beat.now.ops c.loop-i.beat.ops none
+    c.loop-i.invariant.ops)
 
 pub returns-clause-periods : goal.returns-clause-periods
 returns-clause-periods g c =
     let left = c.args.len / 4096 - c.loop-i.i in
     let none : left ≡ 0 = omega (arith, c.loop-i-test.false) in
-    passed_all (erase_periods c.args.len) (replicate left 1) c.args.core c.loop-i.core
+    passed_all (erase_periods c.args.at c.args.len) (replicate left 1) c.args.core c.loop-i.core
     (no_sector_period left none) c.loop-i.invariant.passed

@@ -20,6 +20,6 @@ invariant-loop-i g l = let d = g.K.Duty in let probe = l.fn.beat.probe in record
   probe : l.beat.probe ≡ probe;
   pace : l.beat.pace ≡ l.fn.beat.pace;
   ops : Counting l.count (l.count - l.i) l.fn.beat.ops l.beat.ops;
-  passed : Passed (erase_periods l.fn.len) (replicate (l.count - l.i) 1) l.fn.core l.core;
+  passed : Passed (erase_periods l.fn.at l.fn.len) (replicate (l.count - l.i) 1) l.fn.core l.core;
   told : ToldOf (g.P.Pace.told l.fn.beat.pace.now) l.fn.beat.ops l.beat.ops;
 }

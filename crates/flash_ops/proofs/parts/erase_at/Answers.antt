@@ -22,5 +22,5 @@ returns-clause-ran g c =
 
 pub returns-clause-periods : goal.returns-clause-periods
 returns-clause-periods g c =
-    periods_unbarred (erase_periods c.args.len) c.erase-core.result.1 c.changed.result
+    periods_unbarred (erase_periods c.args.at c.args.len) c.erase-core.result.1 c.changed.result
     c.args.core c.erase-core.result.0 c.changed.ensures.exact c.erase-core.ensures.periods

@@ -49,5 +49,5 @@ returns-in-Ok-clause-periods g c =
     let is : erase_checked rows label c.args.offset len ≡ Ok row =
     sym c.check_erase.ensures.exact ∙ c.in-Ok.is in
     if_row (erase_checked rows label c.args.offset len) row
-    (λ _. HasPeriods (erase_periods len) c.erase_at.result.1 c.args.core
+    (λ row. HasPeriods (erase_periods (row.offset + c.args.offset) len) c.erase_at.result.1 c.args.core
     c.erase_at.result.0) is c.erase_at.ensures.periods
