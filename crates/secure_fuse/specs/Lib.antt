@@ -1,0 +1,4 @@
+pub mod Bits
+pub mod Fuses
+pub mod Ram
+pub mod Secure

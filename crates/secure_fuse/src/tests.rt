@@ -1,0 +1,61 @@
+//! What no clause says: that the rows come out, and the generic call at concrete fuses.
+
+use crate::*;
+use std::alloc::{AllocError, Global};
+use std::test::Fail;
+
+/// Fuses with these bits, one of whose calls fails.
+fn failing_at(alloc: Global, bits: u32, call: u64) -> Result<RamFuse, AllocError> {
+    Ok(RamFuse::new(bits, vec![in alloc; call]?))
+}
+
+#[test]
+fn the_level_is_the_number_of_burnt_bits(rt: HostRuntime) {
+    for (bits, want) in [(0, 0), (1, 1), (0b101, 2), (0x8000_0000, 1), (u32::MAX, 32)] {
+        assert_eq!(rt; level(bits), want, "the level of {bits}");
+    }
+}
+
+#[test]
+fn the_lowest_clear_bits_are_burnt_with_no_call_in_vain(rt: HostRuntime) -> Result<(), Fail> {
+    for (bits, want, after, calls) in [
+        (1, 2, 3, 1),
+        (7, 3, 7, 0),
+        (7, 0, 7, 0),
+        (0b101, 3, 7, 1),
+        (0x8000_0001, 4, 0x8000_0007, 2),
+        (0, 32, u32::MAX, 32),
+        (u32::MAX, 32, u32::MAX, 0),
+    ] {
+        let mut fuse = failing_at(rt.alloc(), bits, calls + 1)?;
+        assert_eq!(rt; raise_to(&mut fuse, want), Ok(()), "from {bits} to {want}");
+        assert_eq!(rt; fuse.bits(), after, "the bits from {bits} to {want}");
+        assert_eq!(rt;
+            fuse.burn(31),
+            Err(FuseNo::Failed),
+            "the next call from {bits}"
+        );
+    }
+    Ok(())
+}
+
+#[test]
+fn each_call_that_fails_ends_it_and_a_second_try_goes_on(rt: HostRuntime) -> Result<(), Fail> {
+    for (call, left) in [(1, 0b101), (2, 0b111), (3, 0b1111)] {
+        let mut fuse = failing_at(rt.alloc(), 0b101, call)?;
+        assert_eq!(rt; raise_to(&mut fuse, 5), Err(FuseNo::Failed), "call {call}");
+        assert_eq!(rt; fuse.bits(), left, "the bits after call {call}");
+        assert_eq!(rt; raise_to(&mut fuse, 5), Ok(()), "again after call {call}");
+        assert_eq!(rt; fuse.bits(), 0b11111, "the bits after both");
+    }
+    Ok(())
+}
+
+#[test]
+fn an_image_has_the_secure_version_of_its_description(rt: HostRuntime) {
+    let mut image = [0; 112];
+    assert_eq!(rt; secure_of(&image), 0, "no mark");
+    image[32..40].copy_from_slice(&[0x32, 0x54, 0xCD, 0xAB, 2, 1, 0, 0]);
+    assert_eq!(rt; secure_of(&image), 258, "little-endian");
+    assert_eq!(rt; secure_of(&image[..111]), 0, "a byte too short");
+}
