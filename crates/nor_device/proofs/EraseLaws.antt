@@ -1,11 +1,14 @@
 -- The erase of a sector and that of a block, told by where they begin and how long they are.
 use Rattle.std.specs.Prelude.{◌↔◌}
-use Rattle.std.proofs.Common.{◌≡◌, ℕ, ◌+◌, ◌-◌, ◌<◌, ◌≤◌, List, ◌++◌, length, take, drop, replicate, ◌∙◌, ap, arith, refl, length-drop}
-use Rattle.std.proofs.lemmas.List.{length-take}
+use Rattle.std.proofs.Common.{◌≡◌, ℕ, ◌+◌, ◌-◌, ◌<◌, ◌≤◌, Bool, true, false, ◌&&◌, cond, nat_lt, nat_le, List, ◌++◌, length, take, drop, replicate, get_or, sym, ◌∙◌, ap, inl, inr, arith, refl, length-drop}
+use Rattle.std.proofs.lemmas.List.{length-take, length-replicate, get_or-replicate}
+use Rattle.std.proofs.lemmas.Bool.{cases_lt}
+use Rattle.std.proofs.lemmas.Bool.Decides.{nat_tests}
 use Rattle.nor_device.specs.declared.step.Step.{Step}
 use Rattle.nor_device.specs.declared.step.Step.TheVariants.{Erase, Program, Block}
 use Rattle.nor_device.specs.Flash.{start_of, len_of, end_of, IsErase, part_after, changed_byte, applied, erased}
 use Rattle.nor_device.specs.Torn.{IsTornByte, Torn, IsTornErase}
+use Rattle.nor_device.proofs.Splice.{length-spliced, spliced_below, spliced_within, spliced_above}
 
 -- a range inside has the bytes that it says
 pub length-part : (flash : List ℕ) (start len : ℕ) → start + len ≤ length flash
@@ -75,3 +78,36 @@ range_is_torn old new step is torn = record {
 pub torn_erase : (old new : List ℕ) (step : Step) → IsErase step
     → (Torn old step new ↔ IsTornErase (start_of step) (len_of step) old new)
 torn_erase old new step is = (torn_by_range old new step is, range_is_torn old new step is)
+
+-- a range of 0xFF keeps the length
+pub length-erased : (flash : List ℕ) (at len : ℕ) → at + len ≤ length flash
+    → length (erased flash at len) ≡ length flash
+length-erased flash at len inside =
+    length-spliced flash at len (replicate len 255)
+    (length-replicate len 255 ∙ sym (length-part flash at len inside))
+
+-- and byte by byte
+pub get_or-erased : (flash : List ℕ) (at len i : ℕ) → at + len ≤ length flash → i < length flash
+    → get_or (erased flash at len) i 0
+    ≡ cond (nat_le at i && nat_lt i (at + len)) 255 (get_or flash i 0)
+get_or-erased flash at len i inside there =
+    let mid : List ℕ = replicate len 255 in
+    let same : length mid ≡ length (take len (drop at flash)) =
+    length-replicate len 255 ∙ sym (length-part flash at len inside) in
+    elim (cases_lt i at) [
+      | inl low ↦
+          let out : (nat_le at i && nat_lt i (at + len)) ≡ false = grind (arith, nat_tests) in
+          spliced_below flash at len mid same i low there
+          ∙ ap (λ (b : Bool). cond b 255 (get_or flash i 0)) (sym out)
+      | inr from ↦ elim (cases_lt i (at + len)) [
+        | inl to ↦
+            let within : (nat_le at i && nat_lt i (at + len)) ≡ true = grind (arith, nat_tests) in
+            spliced_within flash at len mid same i from to there
+            ∙ get_or-replicate len (i - at) 255 0 (omega arith)
+            ∙ ap (λ (b : Bool). cond b 255 (get_or flash i 0)) (sym within)
+        | inr past ↦
+            let out : (nat_le at i && nat_lt i (at + len)) ≡ false = grind (arith, nat_tests) in
+            spliced_above flash at len mid same i past there
+            ∙ ap (λ (b : Bool). cond b 255 (get_or flash i 0)) (sym out)
+      ]
+    ]

@@ -1,5 +1,9 @@
 pub mod Splice
 pub mod FlashLaws
+pub mod EraseLaws
 pub mod TornLaws
 pub mod Missed
-pub mod EraseLaws
+mod MarksLemmas
+mod CoverLemmas
+mod ReadLemmas
+mod MarkLaws

@@ -3,5 +3,8 @@ pub mod FlashSize
 pub mod Torn
 pub mod Nor
 pub mod Make
+pub mod Marks
+pub mod MarksView
+pub mod Marked
 pub mod Ram
 pub mod RamView

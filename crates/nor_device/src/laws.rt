@@ -1,10 +1,11 @@
 //! What holds of every flash and every step.
 
-ghost use Rattle.std.specs.Prelude.{◌≡◌, ◌↔◌, ℕ, ◌<◌, ◌≤◌, All, List, ◌++◌, length, slice_index};
+ghost use Rattle.std.specs.Prelude.{◌≡◌, ◌↔◌, ℕ, ◌+◌, ◌/◌, ◌<◌, ◌≤◌, Bool, true, false, All, List, ◌++◌, length, slice_index};
 ghost use Rattle.nor_device.specs.declared.page.TheConstants.{PAGE_SIZE};
 ghost use Rattle.nor_device.specs.declared.step.TheConstants.{SECTOR_SIZE, BLOCK_SIZE};
 ghost use Rattle.nor_device.specs.declared.step.Step.{Step};
-ghost use Rattle.nor_device.specs.Flash.{start_of, len_of, end_of, IsErase, applied, erased, after_steps, byte_after};
+ghost use Rattle.nor_device.specs.Flash.{IsPageLength, IsInOnePage, start_of, len_of, end_of, IsErase, applied, erased, after_steps, byte_after};
+ghost use Rattle.nor_device.specs.Marks.{no_marks, is_marked, marked_count, marks_after};
 ghost use Rattle.nor_device.specs.Torn.{Torn, IsTornErase};
 
 /// A page has 256 bytes, a sector 4096, and a block 65,536.
@@ -30,6 +31,23 @@ pub fn laws_of_erases()
         → applied flash step ≡ erased flash (start_of step) (len_of step) }
     ensures torn { (old new : List ℕ) (step : Step) → IsErase step
         → (Torn old step new ↔ IsTornErase (start_of step) (len_of step) old new) }
+{}
+
+/// How many sectors of a device in memory are marked: none as it is made, one more after an erase of an
+/// unmarked sector, and one less after the first program in a marked one.
+pub fn laws_of_marks()
+    ensures none { marked_count no_marks ≡ 0 }
+    ensures erase { (marks : List Bool) (sector : ℕ) → sector < length marks
+        → is_marked marks sector ≡ false
+        → marked_count (marks_after (Step.Erase sector) marks) ≡ marked_count marks + 1 }
+    ensures again { (marks : List Bool) (sector : ℕ) → is_marked marks sector ≡ true
+        → marks_after (Step.Erase sector) marks ≡ marks }
+    ensures program { (marks : List Bool) (at : ℕ) (page : List ℕ) → IsPageLength page
+        → IsInOnePage (Step.Program at page) → is_marked marks (at / 4096) ≡ true
+        → marked_count (marks_after (Step.Program at page) marks) + 1 ≡ marked_count marks }
+    ensures others { (marks : List Bool) (at : ℕ) (page : List ℕ) → IsPageLength page
+        → IsInOnePage (Step.Program at page) → is_marked marks (at / 4096) ≡ false
+        → marks_after (Step.Program at page) marks ≡ marks }
 {}
 
 /// What a step that was cut short may leave: nothing done, all done, and with it all that a second cut leaves.

@@ -1,26 +1,28 @@
 //! A flash in memory: each step is made in its last poll.
 
-ghost use Rattle.std.specs.Prelude.{◌≡◌, ◌≤◌, ◌+◌, ◌++◌, None, IsOk, length, take, drop};
-ghost use Rattle.nor_device.specs.Flash.{end_of, applied, anded, erased};
+ghost use Rattle.std.specs.Prelude.{◌≡◌, ◌≤◌, ◌+◌, None, IsOk, length};
+ghost use Rattle.nor_device.specs.Flash.{end_of};
+ghost use Rattle.nor_device.specs.Marks.{AreErased, no_marks, marked_count};
 ghost use Rattle.nor_device.specs.Nor.{part_of};
 ghost use Rattle.nor_device.specs.FlashSize.{IsFlashSize};
 ghost use Rattle.nor_device.specs.Ram.{begun, polled, poll_answer};
 
+use crate::marked_flash::MarkedFlash;
 use crate::nor::{Nor, NorFault, Ready};
-use crate::step::{BLOCK_SIZE, SECTOR_SIZE, Step};
+use crate::step::Step;
 use std::marker::Model;
 
-/// A device that keeps its bytes in memory, refuses nothing and answers `Busy` a fixed number of times a step.
+/// A device that keeps its bytes in memory and erases by marking. It refuses nothing and answers `Busy` a fixed number of times a step.
 #[derive(Drop)]
 pub struct RamNor {
-    bytes: Vec<u8>,
+    flash: MarkedFlash,
     polls: u32,
     running: Option<Step>,
     left: u32,
     steps: u64,
 }
 
-// Clauses see the bytes, the polls of each step, what runs, the polls that are left, and the number of steps.
+// Clauses see the bytes as they read, the marks, the polls of each step, what runs, the polls that are left, and the number of steps.
 impl Model for RamNor {
     ghost use Rattle.nor_device.specs.Ram.{Ram};
 
@@ -41,9 +43,10 @@ impl RamNor {
         ensures polls { result.polls ≡ polls }
         ensures idle { result.running ≡ None }
         ensures steps { result.steps ≡ 0 }
+        ensures marks { result.marks ≡ no_marks }
     {
         RamNor {
-            bytes,
+            flash: MarkedFlash::of_bytes(bytes),
             polls,
             running: None,
             left: 0,
@@ -56,7 +59,15 @@ impl RamNor {
         requires idle { self.running ≡ None }
         ensures exact { result.items ≡ self.bytes }
     {
-        self.bytes
+        self.flash.into_bytes()
+    }
+
+    /// How many sectors are marked: erased, and not yet programmed since. They read as 0xFF.
+    pub fn marked(&self) -> u32
+        ensures exact { result ≡ marked_count self.now.marks }
+        ensures erased { AreErased self.now.marks self.now.bytes }
+    {
+        self.flash.marked()
     }
 }
 
@@ -94,7 +105,7 @@ impl Nor for RamNor {
     ghost sized = { ram_sized };
 
     fn size(&self) -> u32 {
-        self.bytes.len() as u32
+        self.flash.len() as u32
     }
 
     fn read(&mut self, at: u32, out: &mut [u8]) -> Result<(), NorFault>
@@ -103,8 +114,7 @@ impl Nor for RamNor {
         ensures bytes { out.new ≡ part_of self.old.bytes at (length out.old) }
         ensures same { self.new ≡ self.old }
     {
-        let at = at as usize;
-        out.copy_from_slice(&self.bytes[at..at + out.len()]);
+        self.flash.read(at as usize, out);
         Ok(())
     }
 
@@ -129,55 +139,9 @@ impl Nor for RamNor {
             return Ok(Ready::Busy);
         }
         if let Some(step) = &self.running {
-            apply(&mut self.bytes, step);
+            self.flash.apply(step);
         }
         self.running = None;
         Ok(Ready::Ready)
-    }
-}
-
-/// Makes the step in the bytes.
-fn apply(bytes: &mut [u8], step: &Step)
-    requires inside { end_of step.now ≤ length bytes.old }
-    ensures exact { bytes.new ≡ applied bytes.old step.now }
-{
-    match step {
-        Step::Erase { sector } => {
-            let start = *sector as usize * SECTOR_SIZE as usize;
-            erase(bytes, start, SECTOR_SIZE as usize);
-        }
-        Step::Program { at, bytes: page } => program(bytes, *at as usize, page.bytes()),
-        Step::Block { block } => {
-            let start = *block as usize * BLOCK_SIZE as usize;
-            erase(bytes, start, BLOCK_SIZE as usize);
-        }
-    }
-}
-
-/// Sets the bytes of the range to 0xFF.
-fn erase(bytes: &mut [u8], start: usize, len: usize)
-    requires inside { start + len ≤ length bytes.old }
-    ensures exact { bytes.new ≡ erased bytes.old start len }
-{
-    bytes[start..start + len].fill(0xFF);
-}
-
-/// ANDs the data into the bytes.
-fn program(bytes: &mut [u8], start: usize, data: &[u8])
-    requires inside { start + length «data».now ≤ length bytes.old }
-    ensures exact { bytes.new ≡ take start bytes.old
-        ++ anded (part_of bytes.old start (length «data».now)) «data».now
-        ++ drop (start + length «data».now) bytes.old }
-{
-    and_into(&mut bytes[start..start + data.len()], data);
-}
-
-/// ANDs each byte with the one of the data.
-fn and_into(part: &mut [u8], data: &[u8])
-    requires length { length part.old ≡ length «data».now }
-    ensures exact { part.new ≡ anded part.old «data».now }
-{
-    for i in 0..part.len() {
-        part[i] &= data[i];
     }
 }

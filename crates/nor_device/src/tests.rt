@@ -116,6 +116,67 @@ fn a_block_erase_sets_65536_bytes(rt: HostRuntime) -> Result<(), Fail> {
 }
 
 #[test]
+fn an_erase_marks_a_sector_and_the_first_program_fills_it(rt: HostRuntime) -> Result<(), Fail> {
+    let mut device = RamNor::of_bytes(filled(rt.alloc(), 0, SIZE)?, 0);
+    assert_eq!(rt; device.marked(), 0, "as it is made");
+    assert_eq!(rt;
+        byte_after(&mut device, &Step::Erase { sector: 0 }),
+        Ok(0xFF),
+        "an erase"
+    );
+    assert_eq!(rt; device.marked(), 1, "after the erase");
+    let program = Step::Program {
+        at: 5,
+        bytes: Page::of(&[0x12]).ok_or("one byte is a page")?,
+    };
+    assert_eq!(rt; byte_after(&mut device, &program), Ok(0x12), "a program");
+    assert_eq!(rt; device.marked(), 0, "after the program");
+    assert_eq!(rt;
+        byte_at(&mut device, 6),
+        Ok(0xFF),
+        "the byte after the program"
+    );
+    assert_eq!(rt; byte_at(&mut device, 4096), Ok(0), "the next sector");
+    Ok(())
+}
+
+#[test]
+fn a_block_erase_marks_sixteen_sectors(rt: HostRuntime) -> Result<(), Fail> {
+    let mut device = RamNor::of_bytes(filled(rt.alloc(), 0, SIZE)?, 0);
+    assert_eq!(rt;
+        byte_after(&mut device, &Step::Block { block: 1 }),
+        Ok(0xFF),
+        "the first byte"
+    );
+    assert_eq!(rt; device.marked(), 16, "after the erase");
+    let mut across = [7; 4];
+    device.read(65_534, &mut across)?;
+    assert_eq!(rt;
+        across,
+        [0, 0, 0xFF, 0xFF],
+        "a sector without a mark, and one with it"
+    );
+    device.read(131_070, &mut across)?;
+    assert_eq!(rt;
+        across,
+        [0xFF, 0xFF, 0, 0],
+        "a sector with a mark, and one without it"
+    );
+    assert_eq!(rt;
+        byte_after(&mut device, &Step::Erase { sector: 16 }),
+        Ok(0xFF),
+        "erased again"
+    );
+    assert_eq!(rt; device.marked(), 16, "after the second erase");
+    let bytes = device.into_bytes();
+    assert_eq!(rt; bytes[65_535], 0, "before the block");
+    assert_eq!(rt; bytes[65_536], 0xFF, "the first byte of the block");
+    assert_eq!(rt; bytes[131_071], 0xFF, "the last byte of the block");
+    assert_eq!(rt; bytes[131_072], 0, "after the block");
+    Ok(())
+}
+
+#[test]
 fn a_step_answers_busy_as_often_as_was_said(rt: HostRuntime) -> Result<(), Fail> {
     let mut device = RamNor::of_bytes(filled(rt.alloc(), 0, SIZE)?, 2);
     device.start(&Step::Erase { sector: 1 })?;

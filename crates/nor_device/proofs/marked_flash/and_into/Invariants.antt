@@ -1,6 +1,6 @@
 use Rattle.std.proofs.Common.{◌≡◌, ◌++◌, take, drop}
 use Rattle.nor_device.specs.Flash.{anded}
-use Rattle.nor_device.proofs.ram.and_into.Given as goal
+use Rattle.nor_device.proofs.marked_flash.and_into.Given as goal
 
 abbrev pub invariant-loop-i : goal.invariant-loop-i
 invariant-loop-i l =
