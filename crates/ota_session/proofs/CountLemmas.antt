@@ -1,7 +1,8 @@
 -- Quiet periods that were count_behind: one count behind another, and by the answer of a call.
 use Rattle.std.proofs.Common.{◌≡◌, ◌≤◌, ℕ, zero, suc, ◌+◌, ◌/◌, ◌%◌, ◌∙◌, List, length, Result, Ok, Err, ap, refl, subst, arith}
 use Rattle.boot_run.specs.declared.aims.Aim.{Aim}
-use Rattle.flash_steps.specs.Steps.{pages_in, write_steps}
+use Rattle.flash_steps.specs.Steps.{erase_steps, pages_in, write_steps}
+use Rattle.flash_steps.proofs.EraseLemmas.{count_of_erase}
 use Rattle.flash_steps.proofs.WriteLemmas.{count_of_write}
 use Rattle.update_steps.specs.Driver.{whole_sectors}
 use Rattle.flash_ops.specs.declared.refusal.StepNo.{StepNo}
@@ -55,12 +56,14 @@ module _ (n before now : ℕ) (r : Result (Unit {0}) StepNo) (is : CountsPeriods
         subst (λ (x : Result (Unit {0}) StepNo). CountsPeriods n x before now) failed is
 
 -- the erases that begin a session have one period for each sector
-module _ (aim : Aim) (len before now : ℕ) (r : Result (Unit {0}) StepNo)
-    (whole : len ≡ whole_sectors aim.length) (is : CountsPeriods (len / 4096) r before now)
+module _ (aim : Aim) (at len before now : ℕ) (r : Result (Unit {0}) StepNo)
+    (whole : len ≡ whole_sectors aim.length)
+    (is : CountsPeriods (length (erase_steps at len)) r before now)
   where
     begin_counts : CountsPeriods (begin_periods aim) r before now
     begin_counts =
-        let same : len / 4096 ≡ begin_periods aim = omega (arith, whole) in
+        let count = count_of_erase at len in
+        let same : length (erase_steps at len) ≡ begin_periods aim = omega (arith, whole, count) in
         subst (λ (n : ℕ). CountsPeriods n r before now) same is
 
     pub begun_ok : (u : Unit {0}) → r ≡ Ok u → now ≡ count_behind before (begin_periods aim)

@@ -5,11 +5,11 @@ ghost use Rattle.std.specs.Prelude.{◌≡◌, ◌↔◌, ◌<◌, IsOk, IsTrue,
 ghost use Rattle.partition_table.specs.Layout.{Places, layout_of};
 ghost use Rattle.ota_session.specs.Course.{Confirm, Install, IsNext, course_from};
 
-use crate::next::is_open;
 use crate::part::UpdatePart;
 use crate::task::{Task, is_step};
 use boot_run::Aim;
 use bus_hub::Duty;
+use flash_steps::is_open;
 use nor_device::Step;
 use partition_table::{Layout, Table};
 use rollback::Rewrite;

@@ -5,13 +5,11 @@ ghost use Rattle.nor_device.specs.declared.step.Step.TheVariants.{Erase, Program
 ghost use Rattle.otadata.specs.Entry.{entry_bytes};
 ghost use Rattle.image_verify.specs.Bad.{bad};
 ghost use Rattle.boot_run.specs.Rewriting.{rewrite};
-ghost use Rattle.flash_steps.specs.Parts.{LiesInOpenPart, LiesInPart};
 ghost use Rattle.flash_steps.specs.Steps.{pages_in, room_at, write_steps};
 ghost use Rattle.update_steps.specs.Driver.{image_steps, next_rewrite};
 ghost use Rattle.ota_session.specs.Numbers.{IsMarked, page_from};
 
 use boot_run::Aim;
-use flash_steps::row_barred;
 use image_verify::{Verifier, whole_images_show_no_fault};
 use nor_device::{PAGE_SIZE, SECTOR_SIZE, Step};
 use otadata::Entry;
@@ -27,7 +25,7 @@ fn is_erase(step: &Step, sector: u64) -> bool
 {
     match step {
         Step::Erase { sector: found } => u64::from(*found) == sector,
-        Step::Program { .. } => false,
+        _ => false,
     }
 }
 
@@ -36,11 +34,11 @@ fn is_program(step: &Step, at: u64, bytes: &[u8]) -> bool
     ensures exact { IsTrue result ↔ (step.now ≡ Program at bytes.now) }
 {
     match step {
-        Step::Erase { .. } => false,
         Step::Program {
             at: found,
             bytes: page,
         } => u64::from(*found) == at && page.bytes() == bytes,
+        _ => false,
     }
 }
 
@@ -185,32 +183,4 @@ fn is_whole(image: &[u8], limit: u32) -> bool
     let mut verifier = Verifier::new(limit);
     let _ = verifier.feed(image);
     verifier.finish().is_ok()
-}
-
-/// Whether a step lies in a partition.
-fn lies_in(row: &Row, step: &Step) -> bool
-    ensures exact { IsTrue result ↔ LiesInPart row.now step.now }
-{
-    let from = u64::from(row.offset);
-    let to = from + u64::from(row.size);
-    let (start, len) = match step {
-        Step::Erase { sector } => (
-            u64::from(*sector) * u64::from(SECTOR_SIZE),
-            u64::from(SECTOR_SIZE),
-        ),
-        Step::Program { at, bytes } => (u64::from(*at), bytes.bytes().len() as u64),
-    };
-    from <= start && start + len <= to
-}
-
-/// Whether a step lies in a partition that may be changed.
-pub(crate) fn is_open(rows: &[Row], step: &Step) -> bool
-    ensures exact { IsTrue result ↔ LiesInOpenPart rows.now step.now }
-{
-    for row in rows {
-        if row_barred(row).is_none() && lies_in(row, step) {
-            return true;
-        }
-    }
-    false
 }

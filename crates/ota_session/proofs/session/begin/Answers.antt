@@ -39,12 +39,14 @@ returns-in-Err-clause-err g c =
 
 pub returns-in-Ok-clause-ops : goal.returns-in-Ok-clause-ops
 returns-in-Ok-clause-ops g c =
-    begun_ok c.args.aim.now c.bytes_of_sectors.result c.args.beat.now.ops c.erase-core.new.beat.ops
+    begun_ok c.args.aim.now c.place-row.result.offset c.bytes_of_sectors.result c.args.beat.now.ops
+    c.erase-core.new.beat.ops
     c.erase-core.result.1 c.bytes_of_sectors.ensures.exact c.erase-core.ensures.ops c.in-Ok.field-0
     c.in-Ok.is
 
 pub returns-in-Err-clause-ops : goal.returns-in-Err-clause-ops
 returns-in-Err-clause-ops g c =
-    begun_err c.args.aim.now c.bytes_of_sectors.result c.args.beat.now.ops c.erase-core.new.beat.ops
+    begun_err c.args.aim.now c.place-row.result.offset c.bytes_of_sectors.result c.args.beat.now.ops
+    c.erase-core.new.beat.ops
     c.erase-core.result.1 c.bytes_of_sectors.ensures.exact c.erase-core.ensures.ops c.in-Err.no
     c.in-Err.is
