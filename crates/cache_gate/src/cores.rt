@@ -13,6 +13,7 @@ ghost use Rattle.bus_hub.specs.Log.{IsNote};
 ghost use Rattle.bus_hub.specs.Told.{asked};
 ghost use Rattle.cache_gate.specs.Own.{OnBase, HasRoom, IsInside, MayMake, Keeps, HasShown, HasShownStep, Adds, HasFetched, HasStepped, IsPartOf, set_to};
 
+use crate::parked::{NoTurn, Parked};
 use crate::{steps, turns, waits};
 use bus_hub::{Act, Bus, Duty, FetchNo};
 use core_state::{Records, Regs};
@@ -154,12 +155,21 @@ impl<'w, D: Crash, K: Duty> Core<'w, D, K> {
 
     /// The core has the lock and is masked, and the other one is parked or held at rest. While it waits for
     /// the lock it parks where it is asked to.
-    #[tactic(auto, using(crate::proofs::Walks::works_taken, crate::proofs::Walks::shows_taken))]
-    pub fn enter<R: Wait>(mut self, rt: &R) -> Quiet<'w, D, K>
+    pub fn enter<R: Wait>(self, rt: &R) -> Quiet<'w, D, K>
         ensures keeps { Keeps self.entry result }
         ensures shows { HasShown (kinds.Take ∷ []) self.entry result }
     {
-        waits::enter(rt, self.words, &mut self.seat);
+        self.enter_with(rt, &mut NoTurn)
+    }
+
+    /// The same. Wherever it parks, it takes these turns.
+    #[tactic(auto, using(crate::proofs::Walks::works_taken, crate::proofs::Walks::shows_taken))]
+    pub fn enter_with<R: Wait, H: Parked>(mut self, rt: &R, parked: &mut H) -> Quiet<'w, D, K>
+        ensures keeps { Keeps self.entry result }
+        ensures shows { HasShown (kinds.Take ∷ []) self.entry result }
+        ensures turns { H.kept parked.new ≡ H.kept parked.old }
+    {
+        waits::enter(rt, self.words, &mut self.seat, parked);
         Quiet {
             words: self.words,
             seat: self.seat,
@@ -167,12 +177,21 @@ impl<'w, D: Crash, K: Duty> Core<'w, D, K> {
     }
 
     /// Where the core is asked to park, it does so, until it is freed.
-    #[tactic(auto, using(crate::proofs::Walks::works_kept, crate::proofs::Walks::shows_kept))]
     pub fn serve_gate<R: Wait>(&mut self, rt: &R)
         ensures keeps { Keeps self.old self.new }
         ensures shows { HasShown [] self.old self.new }
     {
-        waits::serve(rt, self.words, &mut self.seat);
+        self.serve_gate_with(rt, &mut NoTurn);
+    }
+
+    /// The same. While it is parked, it takes these turns.
+    #[tactic(auto, using(crate::proofs::Walks::works_kept, crate::proofs::Walks::shows_kept))]
+    pub fn serve_gate_with<R: Wait, H: Parked>(&mut self, rt: &R, parked: &mut H)
+        ensures keeps { Keeps self.old self.new }
+        ensures shows { HasShown [] self.old self.new }
+        ensures turns { H.kept parked.new ≡ H.kept parked.old }
+    {
+        waits::serve(rt, self.words, &mut self.seat, parked);
     }
 
     /// Its registers in force.

@@ -3,6 +3,7 @@
 
 mod cores;
 mod gates;
+mod parked;
 mod said;
 mod steps;
 #[cfg(test)]
@@ -12,3 +13,4 @@ mod waits;
 
 pub use cores::{Core, Ended, Quiet, RestCore};
 pub use gates::{Gates, open};
+pub use parked::Parked;

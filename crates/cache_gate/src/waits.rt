@@ -8,6 +8,7 @@ ghost use Rattle.park_words.specs.Views.{in_phase, in_phase_holding, seat_saw};
 ghost use Rattle.cache_gate.specs.Works.{Worked};
 ghost use Rattle.cache_gate.specs.Own.{held_of, kept, to_phase, later_on};
 
+use crate::parked::{NoTurn, Parked};
 use crate::turns::{back, save};
 use bus_hub::{Bus, Duty};
 use crash_images::Crash;
@@ -35,19 +36,23 @@ fn start<R: Wait, D: Crash, K: Duty>(
     }
 }
 
-/// The parked core runs again, once it is freed.
+/// The parked core runs again, once it is freed. Meanwhile it takes its turns, one at the least.
 #[tactic(auto, using(crate::proofs::Walks::looked, crate::proofs::Walks::by_leave, crate::proofs::Walks::works_none))]
-fn leave<R: Wait, D: Crash, K: Duty>(
+fn leave<R: Wait, D: Crash, K: Duty, H: Parked>(
     rt: &R,
     words: &Words<Bus<D, K>>,
     seat: &mut CoreSeat<Bus<D, K>>,
+    parked: &mut H,
 )
     requires table { seat.old.table ≡ words.now }
     requires parked { seat.old.view.phase ≡ Parked }
+    requires saved { IsSome seat.old.view.registers.saved }
     ensures exact { seat.new ≡ in_phase seat.old Running seat.new.view.seen }
     ensures works { Worked [] seat.old.view seat.new.view }
+    ensures turns { H.kept parked.new ≡ H.kept parked.old }
 {
     for _ in rt.forever() {
+        parked.turn(&seat.record());
         if let Ok(()) = words.leave(seat) {
             return;
         }
@@ -75,12 +80,13 @@ fn look<R: Wait, D: Crash, K: Duty>(
     }
 }
 
-/// The masked core parks where it is asked to, until it is freed.
+/// The masked core parks where it is asked to, until it is freed. Meanwhile it takes its turns.
 #[tactic(auto, using(crate::proofs::Walks::looked, crate::proofs::Walks::by_park, crate::proofs::Walks::works_first, crate::proofs::Walks::works_none))]
-fn park<R: Wait, D: Crash, K: Duty>(
+fn park<R: Wait, D: Crash, K: Duty, H: Parked>(
     rt: &R,
     words: &Words<Bus<D, K>>,
     seat: &mut CoreSeat<Bus<D, K>>,
+    parked: &mut H,
 )
     requires table { seat.old.table ≡ words.now }
     requires running { seat.old.view.phase ≡ Running }
@@ -88,9 +94,10 @@ fn park<R: Wait, D: Crash, K: Duty>(
     ensures exact { (seat.new ≡ seat_saw seat.old seat.new.view.seen)
         ⊎ (seat.new ≡ in_phase seat.old Running seat.new.view.seen) }
     ensures works { Worked [] seat.old.view seat.new.view }
+    ensures turns { H.kept parked.new ≡ H.kept parked.old }
 {
     if let Ok(()) = words.park(seat) {
-        leave(rt, words, seat);
+        leave(rt, words, seat, parked);
         // Where both share a processor, the other core, which may be waiting to ask again, goes first.
         thread::yield_now();
     }
@@ -139,17 +146,18 @@ fn settle<R: Wait, D: Crash, K: Duty>(
         if let Ok(()) = words.rest(seat) {
             return;
         }
-        park(rt, words, seat);
+        park(rt, words, seat, &mut NoTurn);
         thread::yield_now();
     }
 }
 
 /// Where the core is asked to park, it does so, and gets its own registers back.
 #[tactic(auto, using(crate::proofs::Walks::looked, crate::proofs::Walks::works_first, crate::proofs::Walks::works_none))]
-pub(crate) fn serve<R: Wait, D: Crash, K: Duty>(
+pub(crate) fn serve<R: Wait, D: Crash, K: Duty, H: Parked>(
     rt: &R,
     words: &Words<Bus<D, K>>,
     seat: &mut CoreSeat<Bus<D, K>>,
+    parked: &mut H,
 )
     requires table { seat.old.table ≡ words.now }
     requires running { seat.old.view.phase ≡ Running }
@@ -157,18 +165,20 @@ pub(crate) fn serve<R: Wait, D: Crash, K: Duty>(
     requires rested { (seat.old.view.turn ≡ false) × (seat.old.view.stepping ≡ false) }
     ensures exact { held_of seat.new ≡ later_on (held_of seat.old) seat.new.view.seen }
     ensures works { Worked [] seat.old.view seat.new.view }
+    ensures turns { H.kept parked.new ≡ H.kept parked.old }
 {
     if words.asked(seat) {
-        pass_by(rt, words, seat);
+        pass_by(rt, words, seat, parked);
     }
 }
 
 /// The core parks, where it is still asked to, and gets its own registers back.
 #[tactic(auto, using(crate::proofs::Walks::works_first))]
-fn pass_by<R: Wait, D: Crash, K: Duty>(
+fn pass_by<R: Wait, D: Crash, K: Duty, H: Parked>(
     rt: &R,
     words: &Words<Bus<D, K>>,
     seat: &mut CoreSeat<Bus<D, K>>,
+    parked: &mut H,
 )
     requires table { seat.old.table ≡ words.now }
     requires running { seat.old.view.phase ≡ Running }
@@ -176,18 +186,20 @@ fn pass_by<R: Wait, D: Crash, K: Duty>(
     requires rested { (seat.old.view.turn ≡ false) × (seat.old.view.stepping ≡ false) }
     ensures exact { held_of seat.new ≡ later_on (held_of seat.old) seat.new.view.seen }
     ensures works { Worked [] seat.old.view seat.new.view }
+    ensures turns { H.kept parked.new ≡ H.kept parked.old }
 {
     save(rt, words, seat);
-    park(rt, words, seat);
+    park(rt, words, seat, parked);
     back(rt, words, seat);
 }
 
 /// The lock, once it is free. Meanwhile the core parks where it is asked to.
 #[tactic(auto, using(crate::proofs::Walks::looked, crate::proofs::Walks::by_take, crate::proofs::Walks::works_first, crate::proofs::Walks::works_none))]
-fn lock<R: Wait, D: Crash, K: Duty>(
+fn lock<R: Wait, D: Crash, K: Duty, H: Parked>(
     rt: &R,
     words: &Words<Bus<D, K>>,
     seat: &mut CoreSeat<Bus<D, K>>,
+    parked: &mut H,
 )
     requires table { seat.old.table ≡ words.now }
     requires running { seat.old.view.phase ≡ Running }
@@ -195,21 +207,23 @@ fn lock<R: Wait, D: Crash, K: Duty>(
     requires rested { (seat.old.view.turn ≡ false) × (seat.old.view.stepping ≡ false) }
     ensures exact { held_of seat.new ≡ to_phase (held_of seat.old) Owning seat.new.view.seen }
     ensures works { Worked (kinds.Take ∷ []) seat.old.view seat.new.view }
+    ensures turns { H.kept parked.new ≡ H.kept parked.old }
 {
     for _ in rt.forever() {
         if let Ok(()) = words.take_lock(seat) {
             return;
         }
-        serve(rt, words, seat);
+        serve(rt, words, seat, parked);
         thread::yield_now();
     }
 }
 
 /// The core takes the lock, masks itself, and is quiet once the other one is out of the way.
-pub(crate) fn enter<R: Wait, D: Crash, K: Duty>(
+pub(crate) fn enter<R: Wait, D: Crash, K: Duty, H: Parked>(
     rt: &R,
     words: &Words<Bus<D, K>>,
     seat: &mut CoreSeat<Bus<D, K>>,
+    parked: &mut H,
 )
     requires table { seat.old.table ≡ words.now }
     requires running { seat.old.view.phase ≡ Running }
@@ -218,8 +232,9 @@ pub(crate) fn enter<R: Wait, D: Crash, K: Duty>(
     ensures exact { held_of seat.new ≡ to_phase (kept (held_of seat.old)
         (saved_and_masked seat.old.view.registers) seat.new.view.seen) Quiet seat.new.view.seen }
     ensures works { Worked (kinds.Take ∷ []) seat.old.view seat.new.view }
+    ensures turns { H.kept parked.new ≡ H.kept parked.old }
 {
-    lock(rt, words, seat);
+    lock(rt, words, seat, parked);
     save(rt, words, seat);
     hush(rt, words, seat);
 }

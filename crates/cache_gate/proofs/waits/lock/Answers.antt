@@ -1,4 +1,4 @@
-use Rattle.std.proofs.Common.{rules, ap, []}
+use Rattle.std.proofs.Common.{rules, ap, ◌∙◌, []}
 use Rattle.cache_gate.proofs.Walks.{looked, works_first}
 use Rattle.cache_gate.proofs.waits.lock.Goals as goal
 
@@ -13,4 +13,5 @@ loop-preserved g c =
       works_first [] u.core v.core w.core u.seen v.seen w.seen
           (looked u a v (ap (λ (z : _). z.view.core) c.in_default.ensures.kept) c.loop.invariant.1
           c.in_default.ensures.cause.1.0) c.serve.ensures.works,
+      c.serve.ensures.turns ∙ c.loop.invariant.2,
     )

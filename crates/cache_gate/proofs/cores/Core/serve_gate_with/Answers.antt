@@ -1,7 +1,7 @@
 use Rattle.cache_gate.specs.Own.{held_of}
 use Rattle.cache_gate.proofs.Walks.{works_kept}
 use Rattle.cache_gate.proofs.States.{runs_on}
-use Rattle.cache_gate.proofs.cores.Core.serve_gate.Goals as goal
+use Rattle.cache_gate.proofs.cores.Core.serve_gate_with.Goals as goal
 
 pub invariant_of-self : goal.invariant_of-self
 invariant_of-self g c =

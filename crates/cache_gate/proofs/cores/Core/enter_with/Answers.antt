@@ -1,7 +1,7 @@
 use Rattle.cache_gate.specs.Own.{held_of}
 use Rattle.cache_gate.proofs.Walks.{works_taken}
 use Rattle.cache_gate.proofs.States.{masks}
-use Rattle.cache_gate.proofs.cores.Core.enter.Goals as goal
+use Rattle.cache_gate.proofs.cores.Core.enter_with.Goals as goal
 
 pub invariant_of-result : goal.invariant_of-result
 invariant_of-result g c =
