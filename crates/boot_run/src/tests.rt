@@ -6,7 +6,7 @@ ghost use Rattle.partition_table.specs.Layout.{IsPlaced};
 
 use crate::*;
 use boot_select::Unsettled;
-use crash_images::CutNor;
+use crash_images::{CutNor, FlakyNor};
 use nor_device::{Nor, RamNor};
 use otadata::Entry;
 use partition_table::{App, Layout, Row, Table};
@@ -471,4 +471,28 @@ fn a_preview_writes_nothing(rt: HostRuntime) -> Result<(), Fail> {
         "a new application"
     );
     Ok(())
+}
+
+#[test]
+fn a_boot_in_which_one_call_fails_leaves_what_boots(rt: HostRuntime) -> Result<(), Fail> {
+    let layout = layout_of(2).ok_or("a layout of two slots")?;
+    let whole = [true, true, false];
+    for at in 1..1_000 {
+        let inner = device_of(rt.alloc(), &one(NEW), &blank(), whole, None, 0)?;
+        let mut device = FlakyNor::new(inner, at);
+        let answer = booted(&mut device, &layout);
+        let faults = device.faults();
+        let flash = device.into_inner().into_inner().into_bytes();
+        let starts = matches!(
+            seen(&flash, &layout),
+            Ok((App::Ota(0) | App::Factory, 80, _))
+        );
+        if faults == 0 {
+            assert_eq!(rt; answer, Ok((App::Ota(0), 80, 2)), "no call fails");
+            return Ok(());
+        }
+        assert_eq!(rt; answer, Err(BootFault::Device), "call {at} fails");
+        assert!(rt; starts, "call {at} fails: what boots");
+    }
+    Err("each call failed".into())
 }

@@ -146,33 +146,40 @@ fn a_block_erase_marks_sixteen_sectors(rt: HostRuntime) -> Result<(), Fail> {
     assert_eq!(rt;
         byte_after(&mut device, &Step::Block { block: 1 }),
         Ok(0xFF),
-        "the first byte"
+        "a block erase"
     );
-    assert_eq!(rt; device.marked(), 16, "after the erase");
-    let mut across = [7; 4];
-    device.read(65_534, &mut across)?;
-    assert_eq!(rt;
-        across,
-        [0, 0, 0xFF, 0xFF],
-        "a sector without a mark, and one with it"
-    );
-    device.read(131_070, &mut across)?;
-    assert_eq!(rt;
-        across,
-        [0xFF, 0xFF, 0, 0],
-        "a sector with a mark, and one without it"
-    );
+    assert_eq!(rt; device.marked(), 16, "after the block erase");
     assert_eq!(rt;
         byte_after(&mut device, &Step::Erase { sector: 16 }),
         Ok(0xFF),
-        "erased again"
+        "an erase"
     );
-    assert_eq!(rt; device.marked(), 16, "after the second erase");
+    assert_eq!(rt;
+        device.marked(),
+        16,
+        "after the erase of one of its sectors"
+    );
     let bytes = device.into_bytes();
     assert_eq!(rt; bytes[65_535], 0, "before the block");
     assert_eq!(rt; bytes[65_536], 0xFF, "the first byte of the block");
     assert_eq!(rt; bytes[131_071], 0xFF, "the last byte of the block");
     assert_eq!(rt; bytes[131_072], 0, "after the block");
+    Ok(())
+}
+
+#[test]
+fn a_read_meets_sectors_with_and_without_a_mark(rt: HostRuntime) -> Result<(), Fail> {
+    let mut device = RamNor::of_bytes(filled(rt.alloc(), 0, SIZE)?, 0);
+    assert_eq!(rt;
+        byte_after(&mut device, &Step::Erase { sector: 1 }),
+        Ok(0xFF),
+        "an erase"
+    );
+    let mut across = [7; 4];
+    device.read(4094, &mut across)?;
+    assert_eq!(rt; across, [0, 0, 0xFF, 0xFF], "up to the marked sector");
+    device.read(8190, &mut across)?;
+    assert_eq!(rt; across, [0xFF, 0xFF, 0, 0], "from the marked sector on");
     Ok(())
 }
 
