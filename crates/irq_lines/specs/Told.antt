@@ -1,5 +1,5 @@
 -- What the calls tell: how the run that a seat has seen went on.
-use Rattle.std.specs.Prelude.{◌≡◌, ◌==◌, ◌<◌, ◌+◌, ◌^◌, ◌↔◌, ℕ, Bool, IsTrue, List, slice_index, bit_and, if◌then◌else◌}
+use Rattle.std.specs.Prelude.{◌≡◌, ◌==◌, ◌<◌, ◌≤◌, ◌+◌, ◌^◌, ◌↔◌, ℕ, Bool, IsTrue, List, slice_index, bit_and, if◌then◌else◌}
 use Rattle.std.specs.Int.{bit_at, bit_not, w32}
 use Rattle.atomic_table.specs.Table.{Me, Step}
 use Rattle.irq_lines.specs.declared.view.Act.{Act}
@@ -28,6 +28,10 @@ RaisedOnce core line v w =
     (k l : ℕ) → l < 32 →
     made w.core w.seen k l
     ≡ made v.core v.seen k l + (if core == k then (if line == l then 1 else 0) else 0)
+
+-- the seat's core called for no line more often than this
+abbrev pub MadeAtMost : ℕ → View → Type 0
+MadeAtMost n v = (k l : ℕ) → l < 32 → made v.core v.seen k l ≤ n
 
 -- the numbers of the calls, and of those that found a line clear, are as they were
 pub record RaisesAreKept (v w : View) : Type 0 where

@@ -9,6 +9,8 @@ mod plays;
 mod rule;
 mod safe;
 mod seat;
+#[cfg(test)]
+mod tests;
 mod view;
 
 pub use closing::Closed;
