@@ -21,7 +21,6 @@ use Rattle.image_layout.specs.declared.space.Space.{Space}
 use Rattle.image_layout.specs.declared.space.Space.TheVariants.{Data, Code}
 use Rattle.image_verify.specs.declared.info.SegmentNote.{SegmentNote}
 use Rattle.mmu_map.specs.Map.{Map}
-use Rattle.boot_run.proofs.FrameLemmas.{stands_inside}
 use Rattle.bus_hub.specs.declared.did.Base.{Base}
 use Rattle.bus_hub.specs.declared.did.Did.{Did}
 use Rattle.bus_hub.specs.declared.journal.Room.{Room}
@@ -45,16 +44,17 @@ use Rattle.duo_run.specs.Worker.{worker_steps}
 use Rattle.duo_run.specs.Works.{CanWork}
 use Rattle.duo_run.proofs.DriverRoomLemmas.{NeedsAtMost, entry_needs, session_needs}
 use Rattle.duo_run.proofs.OpenLemmas.{script_inside}
-use Rattle.duo_run.proofs.PageLemmas.{in_larger, probe_is_fixed}
+use Rattle.duo_run.proofs.PageLemmas.{probe_is_fixed}
 
 -- ---- sizes
 
-pub largest : (n : ℕ) → IsFlashSize n → n ≤ 2 ^ 24
+pub largest : (n : ℕ) → IsFlashSize n → n ≤ 2 ^ 25
 largest n (inl is) = omega arith
 largest n (inr (inl is)) = omega arith
 largest n (inr (inr (inl is))) = omega arith
 largest n (inr (inr (inr (inl is)))) = omega arith
-largest n (inr (inr (inr (inr is)))) = omega arith
+largest n (inr (inr (inr (inr (inl is))))) = omega arith
+largest n (inr (inr (inr (inr (inr is))))) = omega arith
 
 -- an image has the length that its aim is for
 as_long : (layout : Places) (first : List ℕ) (purpose : Purpose) → IsFor layout first purpose
@@ -62,13 +62,12 @@ as_long : (layout : Places) (first : List ℕ) (purpose : Purpose) → IsFor lay
 as_long layout first (Install aim image) for = for.opens.length_is
 as_long layout first (Confirm write) for = tt
 
--- and it fits the flash
+-- and it fits its slot, which ends in the first 16 MiB
 short : (layout : Places) (first : List ℕ) (purpose : Purpose) → IsFor layout first purpose
-    → length_for purpose ≤ length first
+    → length_for purpose ≤ 2 ^ 24
 short layout first (Install aim image) for =
     let begins = for.opens.begins in
-    let inside = stands_inside (length first) begins.row
-    (for.opens.placed.stands (Ota aim.slot) begins.row begins.row_is) in
+    let low = for.opens.placed.low (Ota aim.slot) begins.row begins.row_is in
     let fits = begins.fits in
     let long = for.opens.length_is in
     omega arith
@@ -165,17 +164,15 @@ module _ (rows : List Row) (script : List Action) (driver : ℕ) (layout : Place
   pub begins_long : IsAsLong purpose
   begins_long = as_long layout flash purpose begins.for
 
-  small : length flash ≤ 2 ^ 24
+  small : length flash ≤ 2 ^ 25
   small = largest (length flash) begins.table.size
 
   pub begins_short : length_for purpose ≤ 2 ^ 24
-  begins_short =
-      let fits = short layout flash purpose begins.for in
-      let size = small in omega arith
+  begins_short = short layout flash purpose begins.for
 
-  -- the pages of the application are in the largest flash
+  -- the pages of the application are ones that the cache can map
   pub begins_placed : AreInPlace (2 ^ 24) offset notes
-  begins_placed = in_larger (length flash) (2 ^ 24) offset notes small begins.placed
+  begins_placed = begins.low
 
   obeyed : FitsFlash (length flash) rows
   obeyed = table_fits (take 0xC00 (drop 0x8000 flash)) (length flash) rows begins.table.table

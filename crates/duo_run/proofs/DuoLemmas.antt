@@ -48,14 +48,16 @@ module _ (rows : List Row) (layout : Places) (aim : Aim) (image : List ℕ) (dev
 
   session_begins : (row : Row) → row_for layout aim.running ≡ Some row
       → MayBegin rows layout (Install aim image) row.offset aim.info.segments.items dev
-  session_begins row is = record {
-    ready = may.ready;
-    table = may.table;
-    for = record { old = image_of layout dev.inner.bytes aim.running; opens = may.opens };
-    placed = app_in_place dev.inner.bytes rows layout aim.running row may.opens.begins.image
-        aim.info
-        may.table.table may.table.layout_is is runs may.opens.begins.told;
-  }
+  session_begins row is =
+      let there = app_in_place dev.inner.bytes rows layout aim.running row may.opens.begins.image
+      aim.info may.table.table may.table.layout_is is runs may.opens.begins.told in
+      record {
+        ready = may.ready;
+        table = may.table;
+        for = record { old = image_of layout dev.inner.bytes aim.running; opens = may.opens };
+        placed = there.0;
+        low = there.1;
+      }
 
 session_is : (rows : List Row) (script : List Action) (driver : ℕ) (layout : Places) (aim : Aim)
     (image : List ℕ) (row : Row) (dev : CutDevice Ram) (ran : Ran)
@@ -109,6 +111,8 @@ module _ (rows : List Row) (layout : Places) (at : Booted) (write : Rewrite)
       let there : row_for layout at.app ≢ None = λ none. cc in
       let holds : images_in held layout dev.inner.bytes at.app ≢ None =
       λ none. let image = started in cc in
+      let place = app_in_place dev.inner.bytes rows layout at.app row may.started.image at.info
+      may.table.table may.table.layout_is is started may.started.told in
       record {
         ready = may.ready;
         table = may.table;
@@ -119,8 +123,8 @@ module _ (rows : List Row) (layout : Places) (at : Booted) (write : Rewrite)
           boots = some_boots layout (images_in held layout dev.inner.bytes)
               (entries_in layout dev.inner.bytes) at.app there holds;
         };
-        placed = app_in_place dev.inner.bytes rows layout at.app row may.started.image at.info
-            may.table.table may.table.layout_is is started may.started.told;
+        placed = place.0;
+        low = place.1;
       }
 
 confirm_is : (rows : List Row) (script : List Action) (driver : ℕ) (layout : Places)

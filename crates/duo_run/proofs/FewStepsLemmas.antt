@@ -26,24 +26,24 @@ use Rattle.power_cut.specs.Update.{Opens}
 use Rattle.duo_run.specs.Worker.{action_steps, worker_steps}
 use Rattle.duo_run.proofs.BeginLemmas.{largest}
 
--- bytes lie in no more pages than they are, and two
-pub few_pages : (at len : ℕ) → pages_in at len ≤ len + 2
+-- bytes lie in no more pages than they fill, and two
+pub few_pages : (at len : ℕ) → pages_in at len ≤ len / 256 + 2
 unfolding pages_in
 few_pages at len = by (len == 0)
   where
-    by : (none : Bool) → (if none then 0 else (at % 256 + len + 255) / 256) ≤ len + 2
+    by : (none : Bool) → (if none then 0 else (at % 256 + len + 255) / 256) ≤ len / 256 + 2
     by true = omega arith
     by false = omega arith
 
 module _ (flash : ℕ) (rows : List Row) (fits : FitsFlash flash rows) where
   -- a write that is not refused lies in the flash
   write_few : (label : List ℕ) (offset : ℕ) (bytes : List ℕ)
-      → length (part_write_steps rows label offset bytes) ≤ flash + 2
+      → length (part_write_steps rows label offset bytes) ≤ flash / 256 + 2
   unfolding part_write_steps
   write_few label offset bytes = by (write_checked rows label offset (length bytes)) refl
     where
       by : (found : Result Row PartNo) → write_checked rows label offset (length bytes) ≡ found
-          → length (steps_in found (λ row. write_steps (row.offset + offset) bytes)) ≤ flash + 2
+          → length (steps_in found (λ row. write_steps (row.offset + offset) bytes)) ≤ flash / 256 + 2
       by (Err why) told = omega arith
       by (Ok row) told =
           let inside = (part_of flash rows label offset (length bytes) row fits
@@ -54,12 +54,12 @@ module _ (flash : ℕ) (rows : List Row) (fits : FitsFlash flash rows) where
 
   -- so does an erase
   erase_few : (label : List ℕ) (offset len : ℕ)
-      → length (part_erase_steps rows label offset len) ≤ flash + 2
+      → length (part_erase_steps rows label offset len) ≤ flash / 256 + 2
   unfolding part_erase_steps
   erase_few label offset len = by (erase_checked rows label offset len) refl
     where
       by : (found : Result Row PartNo) → erase_checked rows label offset len ≡ found
-          → length (steps_in found (λ row. erase_steps (row.offset + offset) len)) ≤ flash + 2
+          → length (steps_in found (λ row. erase_steps (row.offset + offset) len)) ≤ flash / 256 + 2
       by (Err why) told = omega arith
       by (Ok row) told =
           let inside = (part_of flash rows label offset len row fits
@@ -67,7 +67,7 @@ module _ (flash : ℕ) (rows : List Row) (fits : FitsFlash flash rows) where
           let count = count_of_erase (row.offset + offset) len in
           omega (arith, inside, count)
 
-  action_few : (action : Action) → length (action_steps rows action) ≤ flash + 2
+  action_few : (action : Action) → length (action_steps rows action) ≤ flash / 256 + 2
   action_few (Fetch at len) = omega arith
   action_few (Mask mask) = omega arith
   action_few (Irq irq) = omega arith

@@ -345,20 +345,3 @@ pub probe_is_fixed : (size offset : ℕ) (notes : List SegmentNote) → AreInPla
     → IfSome (probe_in notes) (λ at. IsFixed (application_pages offset notes) size at 4)
 probe_is_fixed size offset notes are in_all =
     can_look size offset notes (mapped_in Data notes) (mapped_in Code notes) are in_all refl refl
-
--- in place in a flash is in place in a larger one
-pub in_larger : (size more offset : ℕ) (notes : List SegmentNote) → size ≤ more
-    → AreInPlace size offset notes → AreInPlace more offset notes
-in_larger size more offset notes small are = record {
-  aligned = are.aligned;
-  placed = λ space note e.
-      let is = are.placed space note e in
-      let i = is.inside in
-      record {
-        from = is.from;
-        to = is.to;
-        long = is.long;
-        stands = is.stands;
-        inside = omega arith;
-      };
-}

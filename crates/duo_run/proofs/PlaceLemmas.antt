@@ -1,5 +1,5 @@
 -- Where the application that runs stands in the flash, and that its segments are in place there.
-use Rattle.std.proofs.Common.{◌≡◌, ℕ, zero, suc, ◌+◌, ◌%◌, Bool, true, false, List, [], ◌∷◌, length, take, drop, Option, Some, None, IsSome, Ok, refl, sym, ap, ◌∙◌, arith, length-take}
+use Rattle.std.proofs.Common.{◌≡◌, ℕ, zero, suc, ◌+◌, ◌%◌, ◌^◌, Bool, true, false, List, [], ◌∷◌, length, take, drop, Option, Some, None, IsSome, Ok, refl, sym, ap, ◌∙◌, arith, length-take}
 use Rattle.std.specs.Prelude.{if◌then◌else◌}
 use Rattle.std.specs.List.{find, slice_get}
 use Rattle.std.proofs.lemmas.Bool.Decides.{nat_tests}
@@ -77,22 +77,29 @@ row_there layout flash app image is = by (row_for layout app) is
     by None is = absurd cc
     by (Some row) is = refl
 
--- its segments are in place, as they are told
+-- its segments are in place, as they are told, in the flash and in the first 16 MiB
 pub app_in_place : (flash : List ℕ) (rows : List Row) (layout : Places) (app : App) (row : Row)
     (image : List ℕ) (info : ImageInfo)
     → table_of (take 0xC00 (drop 0x8000 flash)) (length flash) ≡ Ok rows
     → layout_of rows ≡ Ok layout → row_for layout app ≡ Some row
     → images_in held layout flash app ≡ Some image → IsInfo image info
     → AreInPlace (length flash) row.offset info.segments.items
+    × AreInPlace (2 ^ 24) row.offset info.segments.items
 app_in_place flash rows layout app row image info table laid is holds told =
     let obeyed = table_fits (take 0xC00 (drop 0x8000 flash)) (length flash) rows table in
-    let stands = (layout_placed (length flash) rows layout obeyed laid).stands app row is in
+    let placed = layout_placed (length flash) rows layout obeyed laid in
+    let stands = placed.stands app row is in
+    let low = placed.low app row is in
     let there : held (slot_in flash row) ≡ Some image =
     ap (λ (o : Option Row). image_by held flash o) (sym is) ∙ holds in
     let held_here = held_is (slot_in flash row) image there in
     let fits = held_here.whole.fits in
     let long = length-take row.size (drop row.offset flash) in
     let inside = stands_inside (length flash) row stands in
-    image_in_place (length flash) row.offset (length (slot_in flash row)) image info
-    (at_page row (app_kind rows layout (layout_of-means rows layout laid) app row is)
-    stands.aligned) (omega arith) held_here.whole told
+    let aligned = at_page row
+    (app_kind rows layout (layout_of-means rows layout laid) app row is) stands.aligned in (
+      image_in_place (length flash) row.offset (length (slot_in flash row)) image info aligned
+          (omega arith) held_here.whole told,
+      image_in_place (2 ^ 24) row.offset (length (slot_in flash row)) image info aligned
+          (omega arith) held_here.whole told,
+    )

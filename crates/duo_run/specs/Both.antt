@@ -1,5 +1,5 @@
 -- Both cores of a leg: what they begin with, what each of them does, and what comes back.
-use Rattle.std.specs.Prelude.{◌≡◌, ◌⊎◌, ℕ, zero, suc, List, [], ◌∷◌, ◌++◌, drop, length, take, None, Result, Ok, Err}
+use Rattle.std.specs.Prelude.{◌≡◌, ◌⊎◌, ◌^◌, ℕ, zero, suc, List, [], ◌∷◌, ◌++◌, drop, length, take, None, Result, Ok, Err}
 use Rattle.core_state.specs.Registers.{reset}
 use Rattle.nor_device.specs.FlashSize.{IsFlashSize}
 use Rattle.nor_device.specs.Ram.{Ram}
@@ -45,13 +45,14 @@ pub record HasTable (rows : List Row) (layout : Places) (flash : List ℕ) : Typ
   pub layout_is : layout_of rows ≡ Ok layout
 
 -- a leg for this purpose may begin on this device, while an application runs that begins here in
--- the flash and has these segments
+-- the flash and has these segments, which stand in the first 16 MiB
 pub record MayBegin (rows : List Row) (layout : Places) (purpose : Purpose) (offset : ℕ)
     (notes : List SegmentNote) (dev : CutDevice Ram) : Type 0 where
   pub ready : IsReady dev
   pub table : HasTable rows layout dev.inner.bytes
   pub for : IsFor layout dev.inner.bytes purpose
   pub placed : AreInPlace (length dev.inner.bytes) offset notes
+  pub low : AreInPlace (2 ^ 24) offset notes
 
 -- ---- what both cores begin with
 
