@@ -1,8 +1,49 @@
 //! What no clause says: that the rows come out, and the generic call at concrete fuses.
 
+ghost use Rattle.std.specs.Prelude.{◌≡◌, Any};
+
 use crate::*;
 use std::alloc::{AllocError, Global};
 use std::test::Fail;
+
+/// Fuses that note what a loss of power may leave of each call. One call is refused although it burns its bit.
+#[derive(Drop)]
+struct Noted {
+    bits: u32,
+    words: Vec<u32>,
+    refused: u64,
+    calls: u64,
+    faults: u64,
+}
+
+impl Fuses for Noted {
+    ghost burnt = { λ f. f.bits };
+
+    ghost left = { λ f bits. Any (λ word. word ≡ bits) f.words.items };
+
+    ghost calls = { λ f. f.calls };
+
+    ghost faults = { λ f. f.faults };
+
+    fn bits(&self) -> u32 {
+        self.bits
+    }
+
+    fn burn(&mut self, bit: u8) -> Result<(), FuseNo> {
+        self.calls = self.calls.saturating_add(1);
+        let burnt = self.bits | 1 << bit;
+        if self.words.push(self.bits).is_err() || self.words.push(burnt).is_err() {
+            self.faults = self.faults.saturating_add(1);
+            return Err(FuseNo::Failed);
+        }
+        self.bits = burnt;
+        if self.calls == self.refused {
+            self.faults = self.faults.saturating_add(1);
+            return Err(FuseNo::Failed);
+        }
+        Ok(())
+    }
+}
 
 /// Fuses with these bits, one of whose calls fails.
 fn failing_at(alloc: Global, bits: u32, call: u64) -> Result<RamFuse, AllocError> {
@@ -48,6 +89,27 @@ fn each_call_that_fails_ends_it_and_a_second_try_goes_on(rt: HostRuntime) -> Res
         assert_eq!(rt; raise_to(&mut fuse, 5), Ok(()), "again after call {call}");
         assert_eq!(rt; fuse.bits(), 0b11111, "the bits after both");
     }
+    Ok(())
+}
+
+#[test]
+fn at_each_moment_a_word_on_the_way_is_left(rt: HostRuntime) -> Result<(), Fail> {
+    let mut fuse = Noted {
+        bits: 0b101,
+        words: Vec::new(rt.alloc()),
+        refused: 2,
+        calls: 0,
+        faults: 0,
+    };
+    assert_eq!(rt;
+        raise_to(&mut fuse, 5),
+        Err(FuseNo::Failed),
+        "the second call"
+    );
+    assert_eq!(rt; raise_to(&mut fuse, 5), Ok(()), "the third call");
+    assert_eq!(rt; fuse.calls, 3, "a call a level");
+    let words = [0b101, 0b111, 0b111, 0b1111, 0b1111, 0b11111];
+    assert_eq!(rt; fuse.words.as_slice(), words.as_slice(), "what may be left");
     Ok(())
 }
 
