@@ -11,7 +11,7 @@ use Rattle.irq_lines.specs.declared.view.Act.{Act}
 use Rattle.irq_lines.specs.declared.view.Act.TheVariants.{Raised, Served}
 use Rattle.irq_lines.specs.declared.view.View.{View}
 use Rattle.irq_lines.specs.Views.{IsOne}
-use Rattle.irq_lines.specs.Story.{pending, calls_in, fresh_in, served_in, counted, made, raised, IsRun, Went}
+use Rattle.irq_lines.specs.Story.{pending, calls_in, fresh_in, served_in, tallied, made, raised, IsRun, Went}
 use Rattle.irq_lines.specs.Counts.{count_at, AreCounts, Adds, IsKept}
 use Rattle.irq_lines.specs.Rule.{Ruled}
 use Rattle.irq_lines.specs.Told.{Tells, TellsRaised, TellsServed, RaisedOnce, RaisesAreKept}
@@ -21,10 +21,10 @@ use Rattle.irq_lines.proofs.OneStep.{IsOut, not_not, raises, serves}
 module _ (act : Act) (i n : ℕ) (v v' : View) (w : Went act i n v v') where
   -- a step counts what it counts where the run led
   pub went_counts : (f : ℕ → Act → ℕ) (k : ℕ)
-      → counted f k v.core 0 v'.seen
-      ≡ counted f k v.core 0 v.seen + f (pending (v.seen ++ w.between) k) act
+      → tallied f k v.core 0 v'.seen
+      ≡ tallied f k v.core 0 v.seen + f (pending (v.seen ++ w.between) k) act
   went_counts f k =
-      let seen = ap (counted f k v.core 0) w.is in
+      let seen = ap (tallied f k v.core 0) w.is in
       let own = counted_own f k v.core 0 (v.seen ++ w.between) act in
       let parts = counted_append f k v.core 0 v.seen w.between in
       let none = counted_none f k v.core (pending v.seen k) w.between w.none_own in
@@ -32,15 +32,15 @@ module _ (act : Act) (i n : ℕ) (v v' : View) (w : Went act i n v v') where
 
   -- the rows go on by the lines that the step counts
   goes_on : (f : ℕ → ℕ → ℕ → Act → ℕ) (own bits : ℕ) (before after : List (List ℕ)) → v.core ≡ own
-      → AreCounts before (λ k l. counted (f k l) k own 0 v.seen) → Adds i bits before after
+      → AreCounts before (λ k l. tallied (f k l) k own 0 v.seen) → Adds i bits before after
       → ((k l m : ℕ) → l < 32 → (i ≡ k → m ≡ n) → f k l m act ≡ (if i == k then bit_at bits l else 0))
-      → AreCounts after (λ k l. counted (f k l) k own 0 v'.seen)
+      → AreCounts after (λ k l. tallied (f k l) k own 0 v'.seen)
   goes_on f own bits before after core are adds counts = λ k l small line.
       let a = are k l small line in let b = adds k l small line in
-      let c : counted (f k l) k own 0 v'.seen
-      ≡ counted (f k l) k own 0 v.seen + f k l (pending (v.seen ++ w.between) k) act =
-      subst (λ c. counted (f k l) k c 0 v'.seen
-      ≡ counted (f k l) k c 0 v.seen + f k l (pending (v.seen ++ w.between) k) act) core
+      let c : tallied (f k l) k own 0 v'.seen
+      ≡ tallied (f k l) k own 0 v.seen + f k l (pending (v.seen ++ w.between) k) act =
+      subst (λ c. tallied (f k l) k c 0 v'.seen
+      ≡ tallied (f k l) k c 0 v.seen + f k l (pending (v.seen ++ w.between) k) act) core
       (went_counts (f k l) k) in
       let d = counts k l (pending (v.seen ++ w.between) k) line
       (λ e. ap (pending (v.seen ++ w.between)) (sym e) ∙ w.found) in
@@ -48,14 +48,14 @@ module _ (act : Act) (i n : ℕ) (v v' : View) (w : Went act i n v v') where
 
   -- rows of what the step does not count stay
   stays : (f : ℕ → ℕ → ℕ → Act → ℕ) (own : ℕ) (rows : List (List ℕ)) → v.core ≡ own
-      → AreCounts rows (λ k l. counted (f k l) k own 0 v.seen)
-      → ((k l m : ℕ) → f k l m act ≡ 0) → AreCounts rows (λ k l. counted (f k l) k own 0 v'.seen)
+      → AreCounts rows (λ k l. tallied (f k l) k own 0 v.seen)
+      → ((k l m : ℕ) → f k l m act ≡ 0) → AreCounts rows (λ k l. tallied (f k l) k own 0 v'.seen)
   stays f own rows core are none = λ k l small line.
       let a = are k l small line in
-      let c : counted (f k l) k own 0 v'.seen
-      ≡ counted (f k l) k own 0 v.seen + f k l (pending (v.seen ++ w.between) k) act =
-      subst (λ c. counted (f k l) k c 0 v'.seen
-      ≡ counted (f k l) k c 0 v.seen + f k l (pending (v.seen ++ w.between) k) act) core
+      let c : tallied (f k l) k own 0 v'.seen
+      ≡ tallied (f k l) k own 0 v.seen + f k l (pending (v.seen ++ w.between) k) act =
+      subst (λ c. tallied (f k l) k c 0 v'.seen
+      ≡ tallied (f k l) k c 0 v.seen + f k l (pending (v.seen ++ w.between) k) act) core
       (went_counts (f k l) k) in
       let d = none k l (pending (v.seen ++ w.between) k) in omega (arith, a, c, d)
 

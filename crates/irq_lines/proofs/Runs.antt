@@ -1,4 +1,4 @@
--- Numbers counted over runs: a run with more at its end, what a core has seen of it, and balance.
+-- Numbers tallied over runs: a run with more at its end, what a core has seen of it, and balance.
 use Rattle.std.proofs.Common.{◌≡◌, ◌==◌, ◌≢◌, ℕ, zero, suc, ◌+◌, ◌*◌, ◌<◌, ◌≤◌, ◌++◌, ◌∙◌, ap, subst, sym, refl, Bool, true, false, List, [], ◌∷◌, slice_index, ne_eqb, eq-eqb, inl, inr, arith}
 use Rattle.std.specs.Prelude.{if◌then◌else◌}
 use mathlib.Core.Logic.{dite}
@@ -7,7 +7,7 @@ use Rattle.std.specs.Int.{bit_at}
 use Rattle.std.proofs.lemmas.Nat.Bits.{bit_at-zero}
 use Rattle.irq_lines.specs.declared.view.Act.{Act}
 use Rattle.irq_lines.specs.declared.view.Entry.{Entry}
-use Rattle.irq_lines.specs.Story.{entry, done_by, AreOfBothCores, IsPlain, ArePlain, word_by, word_after, pending, calls_in, fresh_in, served_in, counted, made, raised, served, IsRun, Saw, Apart, Story, Balance}
+use Rattle.irq_lines.specs.Story.{entry, done_by, AreOfBothCores, IsPlain, ArePlain, word_by, word_after, pending, calls_in, fresh_in, served_in, tallied, made, raised, served, IsRun, Saw, Apart, Story, Balance}
 use Rattle.irq_lines.specs.Rule.{BalancesAt, EveryStateBalances}
 use Rattle.irq_lines.proofs.Bits.{step_even, fresh_le, fresh_or_set}
 
@@ -76,38 +76,38 @@ word_append k n (e ∷ a) b = word_append k (word_by k n e.act) a b
 
 module _ (f : ℕ → Act → ℕ) (k c : ℕ) where
   pub counted_append : (n : ℕ) (a b : List Entry)
-      → counted f k c n (a ++ b) ≡ counted f k c n a + counted f k c (word_after k n a) b
-  counted_append n [] b = let m = counted f k c n b in omega arith
+      → tallied f k c n (a ++ b) ≡ tallied f k c n a + tallied f k c (word_after k n a) b
+  counted_append n [] b = let m = tallied f k c n b in omega arith
   counted_append n (e ∷ a) b =
       let h = counted_append (word_by k n e.act) a b in omega (arith, h)
 
   -- entries of others count nothing
-  pub counted_none : (n : ℕ) (es : List Entry) → done_by c es ≡ [] → counted f k c n es ≡ 0
+  pub counted_none : (n : ℕ) (es : List Entry) → done_by c es ≡ [] → tallied f k c n es ≡ 0
   counted_none n [] none = refl
   counted_none n (e ∷ es) none =
       choose (e.by == c) none (counted_none (word_by k n e.act) es)
     where
       choose : (t : Bool) → (if t then e ∷ done_by c es else done_by c es) ≡ []
-          → (done_by c es ≡ [] → counted f k c (word_by k n e.act) es ≡ 0)
-          → (if t then f n e.act else 0) + counted f k c (word_by k n e.act) es ≡ 0
+          → (done_by c es ≡ [] → tallied f k c (word_by k n e.act) es ≡ 0)
+          → (if t then f n e.act else 0) + tallied f k c (word_by k n e.act) es ≡ 0
       choose true bad rest = absurd (cc bad)
       choose false own rest = let h = rest own in omega arith
 
   -- what a core has seen has all that it counts
   pub counted_seen : (n : ℕ) (run seen : List Entry) → Saw run c seen
-      → counted f k c n run ≡ counted f k c n seen
+      → tallied f k c n run ≡ tallied f k c n seen
   counted_seen n run seen saw =
       let none = counted_none (word_after k n seen) saw.later saw.none_own in
       let parts = counted_append n seen saw.later in
-      let split = ap (counted f k c n) saw.splits in omega (arith, none, parts, split)
+      let split = ap (tallied f k c n) saw.splits in omega (arith, none, parts, split)
 
   -- the core's own last step
   pub counted_own : (n : ℕ) (es : List Entry) (act : Act)
-      → counted f k c n (es ++ entry c act ∷ [])
-      ≡ counted f k c n es + f (word_after k n es) act
+      → tallied f k c n (es ++ entry c act ∷ [])
+      ≡ tallied f k c n es + f (word_after k n es) act
   counted_own n es act =
       counted_append n es (entry c act ∷ [])
-      ∙ ap (λ x. counted f k c n es + x)
+      ∙ ap (λ x. tallied f k c n es + x)
       (ap (λ b. (if b then f (word_after k n es) act else 0) + 0) (eq-eqb c c refl)
       ∙ plus_zero (f (word_after k n es) act))
     where
@@ -116,7 +116,7 @@ module _ (f : ℕ → Act → ℕ) (k c : ℕ) where
 
   -- a last step of another one
   pub counted_other : (n : ℕ) (es : List Entry) (d : ℕ) (act : Act) → d ≢ c
-      → counted f k c n (es ++ entry d act ∷ []) ≡ counted f k c n es
+      → tallied f k c n (es ++ entry d act ∷ []) ≡ tallied f k c n es
   counted_other n es d act apart =
       let parts = counted_append n es (entry d act ∷ []) in
       let none = counted_none (word_after k n es) (entry d act ∷ []) (none_own d c act apart) in
@@ -124,30 +124,30 @@ module _ (f : ℕ → Act → ℕ) (k c : ℕ) where
 
 -- what counts no more at each step counts no more
 counted_le : (f g : ℕ → Act → ℕ) (k c n : ℕ) (es : List Entry)
-    → ((n : ℕ) (act : Act) → f n act ≤ g n act) → counted f k c n es ≤ counted g k c n es
+    → ((n : ℕ) (act : Act) → f n act ≤ g n act) → tallied f k c n es ≤ tallied g k c n es
 counted_le f g k c n [] le = omega arith
 counted_le f g k c n (e ∷ es) le =
     let h = counted_le f g k c (word_by k n e.act) es le in
     choose (e.by == c) (le n e.act) h
   where
     choose : (t : Bool) → f n e.act ≤ g n e.act
-        → counted f k c (word_by k n e.act) es ≤ counted g k c (word_by k n e.act) es
-        → (if t then f n e.act else 0) + counted f k c (word_by k n e.act) es
-        ≤ (if t then g n e.act else 0) + counted g k c (word_by k n e.act) es
+        → tallied f k c (word_by k n e.act) es ≤ tallied g k c (word_by k n e.act) es
+        → (if t then f n e.act else 0) + tallied f k c (word_by k n e.act) es
+        ≤ (if t then g n e.act else 0) + tallied g k c (word_by k n e.act) es
     choose true a b = omega arith
     choose false a b = omega arith
 
 -- the sum over both cores is, step by step, that of the one whose step it was
 abbrev both : (ℕ → Act → ℕ) → ℕ → ℕ → List Entry → ℕ
-both f k n es = counted f k 0 n es + counted f k 1 n es
+both f k n es = tallied f k 0 n es + tallied f k 1 n es
 
 both_step : (f : ℕ → Act → ℕ) (k n : ℕ) (e : Entry) (es : List Entry) → e.by < 2
     → both f k n (e ∷ es) ≡ f n e.act + both f k (word_by k n e.act) es
 both_step f k n e es small = by_core e.by small
   where
     by_core : (c : ℕ) → c < 2
-        → ((if c == 0 then f n e.act else 0) + counted f k 0 (word_by k n e.act) es)
-        + ((if c == 1 then f n e.act else 0) + counted f k 1 (word_by k n e.act) es)
+        → ((if c == 0 then f n e.act else 0) + tallied f k 0 (word_by k n e.act) es)
+        + ((if c == 1 then f n e.act else 0) + tallied f k 1 (word_by k n e.act) es)
         ≡ f n e.act + both f k (word_by k n e.act) es
     by_core zero small = omega arith
     by_core (suc zero) small = omega arith
@@ -216,12 +216,12 @@ balances words c o mine theirs apart s k l small line =
     )) (run_balances k l line s.run s.is_run.two s.is_run.plain)
   where
     sums : (f : ℕ → Act → ℕ)
-        → both f k 0 s.run ≡ counted f k c 0 mine + counted f k o 0 theirs
+        → both f k 0 s.run ≡ tallied f k c 0 mine + tallied f k o 0 theirs
     sums f =
         let a = counted_seen f k c 0 s.run mine s.saw in
         let b = counted_seen f k o 0 s.run theirs s.saw' in
         by_two
-        (λ c o. both f k 0 s.run ≡ counted f k c 0 s.run + counted f k o 0 s.run)
+        (λ c o. both f k 0 s.run ≡ tallied f k c 0 s.run + tallied f k o 0 s.run)
         c o apart refl (omega arith) ∙ (λ i. a i + b i)
 
     word : (k : ℕ) → k < 2 → pending s.run k ≡ slice_index words k

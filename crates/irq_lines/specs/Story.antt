@@ -1,5 +1,5 @@
 -- The run of the two pending words: which lines were raised and served, in one order; what each core
--- has seen of it; and the numbers of each line, counted over it.
+-- has seen of it; and the numbers of each line, tallied over it.
 use Rattle.std.specs.Prelude.{◌≡◌, ◌==◌, ◌<◌, ◌≤◌, ◌+◌, ◌-◌, ◌^◌, ◌++◌, ℕ, ◌⊎◌, List, [], ◌∷◌, min, bit_and, bit_or, if◌then◌else◌}
 use Rattle.std.specs.Int.{bit_at, bit_not, w32}
 use Rattle.irq_lines.specs.declared.view.Act.{Act}
@@ -63,22 +63,22 @@ served_in k l n (Served core mask) =
     if core == k then min (bit_at n l) (bit_at mask l) else 0
 
 -- the sum of such numbers over the steps of core c, from the word n of core k on
-abbrev pub counted : (ℕ → Act → ℕ) → ℕ → ℕ → ℕ → List Entry → ℕ
-counted f k c n [] = 0
-counted f k c n (e ∷ es) =
-    (if e.by == c then f n e.act else 0) + counted f k c (word_by k n e.act) es
+abbrev pub tallied : (ℕ → Act → ℕ) → ℕ → ℕ → ℕ → List Entry → ℕ
+tallied f k c n [] = 0
+tallied f k c n (e ∷ es) =
+    (if e.by == c then f n e.act else 0) + tallied f k c (word_by k n e.act) es
 
 -- how often core c called for line l of core k
 abbrev pub made : ℕ → List Entry → ℕ → ℕ → ℕ
-made c run k l = counted (calls_in k l) k c 0 run
+made c run k l = tallied (calls_in k l) k c 0 run
 
 -- how often it found that line clear
 abbrev pub raised : ℕ → List Entry → ℕ → ℕ → ℕ
-raised c run k l = counted (fresh_in k l) k c 0 run
+raised c run k l = tallied (fresh_in k l) k c 0 run
 
 -- how often it served that line
 abbrev pub served : ℕ → List Entry → ℕ → ℕ → ℕ
-served c run k l = counted (served_in k l) k c 0 run
+served c run k l = tallied (served_in k l) k c 0 run
 
 -- a run that may be: of both cores, on lines that there are, with fewer calls than 2 ^ 32 of each
 -- core for each line
