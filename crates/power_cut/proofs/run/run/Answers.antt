@@ -1,7 +1,7 @@
 use Rattle.std.proofs.Common.{◌∙◌, ap, refl, sym, List, ◌∷◌, ◌++◌, []}
 use Rattle.power_cut.specs.declared.legs.Leg.{Leg}
 use Rattle.power_cut.specs.Kept.{KeepsConfirm}
-use Rattle.power_cut.proofs.WholeLemmas.{booted_some, confirm_may, last_placed, last_some, outcome_boot, outcome_confirm, outcome_session}
+use Rattle.power_cut.proofs.WholeLemmas.{booted_some, confirm_may, last_placed, last_small, last_some, outcome_boot, outcome_confirm, outcome_session}
 use Rattle.power_cut.proofs.run.run.Goals as goal
 
 -- the session was the last leg
@@ -108,6 +108,32 @@ close-requires-2-clause-placed g c =
     c.boot_leg-booted.ensures.booted c.in-Some.at
     (sym c.booted_for.ensures.exact ∙ c.in-Some.is) c.confirmation.result
     c.confirmation.ensures.exact c.in_ok-ran.ran kept
+
+-- which is less than 4 GiB
+pub close-requires-2-clause-small : goal.close-requires-2-clause-small
+close-requires-2-clause-small g c =
+    let ran = c.in_ok-dev.field-0 in
+    let keeps = c.requires.written ran c.in_ok-dev.ensures.has in
+    let may = confirm_may c.whole_images_show_no_fault.ensures c.args.layout.now c.args.aim.now
+    c.args.image.now c.args.dev c.requires.opens c.args.upto ran keeps
+    (sym c.goes_on.ensures.exact ∙ c.if-not-goes_on.false) c.restart-dev.result
+    c.boot_leg-booted.new.dev c.restart-dev.ensures.exact c.boot_leg-booted.result.0
+    c.boot_leg-booted.result.1 c.boot_leg-booted.ensures.left
+    c.boot_leg-booted.ensures.booted c.in-Some.at
+    (sym c.booted_for.ensures.exact ∙ c.in-Some.is) c.confirmation.result
+    c.confirmation.ensures.exact in
+    let kept : KeepsConfirm c.args.layout.now c.confirmation.result c.boot_leg-booted.new.dev
+    c.in_ok-ran.ran =
+    c.requires.confirmed c.boot_leg-booted.new.dev _ _ c.in_ok-ran.ran may
+    c.in_ok-ran.ensures.has in
+    last_small c.whole_images_show_no_fault.ensures c.args.layout.now
+    c.args.aim.now c.args.image.now c.args.dev c.requires.opens c.args.upto ran keeps
+    (sym c.goes_on.ensures.exact ∙ c.if-not-goes_on.false) c.restart-dev.result
+    c.boot_leg-booted.new.dev c.restart-dev.ensures.exact c.boot_leg-booted.result.0
+    c.boot_leg-booted.result.1 c.boot_leg-booted.ensures.left
+    c.boot_leg-booted.ensures.booted c.in-Some.at
+    (sym c.booted_for.ensures.exact ∙ c.in-Some.is) c.confirmation.result
+    c.confirmation.ensures.exact c.in_ok-ran.ran kept c.requires.small
 
 -- and some application boots of its flash
 pub close-requires-2-clause-some : goal.close-requires-2-clause-some
