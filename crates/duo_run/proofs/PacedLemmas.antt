@@ -70,7 +70,7 @@ pieces_counted now whole rest none left =
     let gone : pieces_of (length rest) ≡ 0 = omega (arith, none) in
     sym (ap (count_behind now) gone) ∙ left
 
--- the first byte of all is refused before anything was count_behind
+-- the first byte of all is refused before anything was counted
 pub uncounted : (n first before now : ℕ) (refused_so : WriteNo)
     → ((byte : ℕ) → refused_so ≡ writes.FirstByte byte → before ≡ first)
     → HasCountedSome n refused_so before now → HasCountedNone refused_so first now

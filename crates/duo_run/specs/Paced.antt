@@ -52,7 +52,7 @@ abbrev pub ops_for : Places → Purpose → ℕ
 ops_for layout (Install aim image) = session_ops layout aim image
 ops_for layout (Confirm write) = 2
 
--- the quiet periods that a write of all bytes count_behind, where it was refused: none for the first byte
+-- the quiet periods that a write of all bytes counted, where it was refused: none for the first byte
 -- of all
 abbrev pub HasCountedNone : WriteNo → ℕ → ℕ → Type 0
 HasCountedNone (writes.FirstByte byte) before now = now ≡ before

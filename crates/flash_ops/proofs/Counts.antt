@@ -1,10 +1,10 @@
--- Quiet periods, count_behind one by one.
+-- Quiet periods, counted one by one.
 use Rattle.std.proofs.Common.{◌≡◌, ℕ, suc, ◌+◌, ◌∙◌, ap, refl, arith, Result, Ok, Err}
 use Rattle.nor_device.specs.declared.nor.NorFault.{NorFault}
 use Rattle.flash_ops.specs.declared.refusal.StepNo.{StepNo}
 use Rattle.flash_ops.specs.Told.{count_behind, CountsPeriods, fault_of}
 
--- so many periods are left of a whole, and those before them were count_behind
+-- so many periods are left of a whole, and those before them were counted
 pub record Counting (whole left before now : ℕ) : Type 0 where
   pub many : ℕ
   pub whole_is : many + left ≡ whole

@@ -51,12 +51,12 @@ pub record IsCountedUpTo (most before now : ℕ) : Type 0 where
   pub within : many ≤ most
   pub is : now ≡ count_behind before many
 
--- the quiet periods that were count_behind, by the answer: so many, or at most so many
+-- the quiet periods that were counted, by the answer: so many, or at most so many
 abbrev pub CountsPeriods : ℕ → Result (Unit {0}) StepNo → ℕ → ℕ → Type 0
 CountsPeriods n (Ok _) before now = now ≡ count_behind before n
 CountsPeriods n (Err why) before now = IsCountedUpTo n before now
 
--- of each quiet period that was count_behind from one count to another, the pace was told of the begin and
+-- of each quiet period that was counted from one count to another, the pace was told of the begin and
 -- of the end
 abbrev pub ToldOf : (Point → Type 0) → ℕ → ℕ → Type 0
 ToldOf told before now =

@@ -1,4 +1,4 @@
--- Quiet periods that were count_behind: one count behind another, and by the answer of a call.
+-- Quiet periods that were counted: one count behind another, and by the answer of a call.
 use Rattle.std.proofs.Common.{◌≡◌, ◌≤◌, ℕ, zero, suc, ◌+◌, ◌/◌, ◌%◌, ◌∙◌, List, length, Result, Ok, Err, ap, refl, subst, arith}
 use Rattle.boot_run.specs.declared.aims.Aim.{Aim}
 use Rattle.flash_steps.specs.Steps.{erase_steps, pages_in, write_steps}

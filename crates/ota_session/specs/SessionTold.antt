@@ -26,7 +26,7 @@ abbrev pub cause_of : StepNo → NorFault
 cause_of steps.Device = Failed
 cause_of steps.Cut = Off
 
--- the quiet periods that a call count_behind, by its answer: so many, or at most so many
+-- the quiet periods that a call counted, by its answer: so many, or at most so many
 abbrev pub HasCounted : {A E : Type 0} → ℕ → Result A E → ℕ → ℕ → Type 0
 HasCounted n (Ok done) before now = now ≡ count_behind before n
 HasCounted n (Err back) before now = IsCountedUpTo n before now

@@ -1,4 +1,4 @@
--- The entry is count_behind where it is written.
+-- The entry is counted where it is written.
 use Rattle.std.proofs.Common.{◌∙◌, ap}
 use Rattle.ota_session.specs.Stages.{image_of}
 use Rattle.flash_ops.specs.Told.{count_behind}

@@ -49,7 +49,7 @@ returns-in-Err-clause-err g c =
     (subst (λ (p : Option ℕ). IsNotWritten p piece w c.in-Err.back.no c.in-Err.back.core)
     c.loop-rest.invariant.probe c.in-Err.ensures.err)
 
--- before anything was count_behind, or as far as that
+-- before anything was counted, or as far as that
 pub returns-in-Err-clause-ops : goal.returns-in-Err-clause-ops
 returns-in-Err-clause-ops g c =
     let w = c.loop-rest.ota in
@@ -129,7 +129,7 @@ returns-clause-ok g c =
     up_to_all c.args.beat.now.probe c.args.image.now c.args.ota c.loop-rest.ota rest
     c.loop-rest.invariant.up c.requires.nothing gone
 
--- each piece was count_behind
+-- each piece was counted
 pub returns-clause-ops : goal.returns-clause-ops
 returns-clause-ops g c =
     let rest = c.loop-rest.rest.now in
