@@ -1,5 +1,7 @@
+use Rattle.std.proofs.Common.{rules}
 use Rattle.duo_run.proofs.OpeningLemmas.{duo_affirms, duo_keeps}
 use Rattle.power_cut.proofs.TrialLemmas.{trial_of}
+use Rattle.update_run.proofs.RunLemmas.{may_affirm}
 use Rattle.update_run.proofs.running.run_legs.Goals as goal
 
 -- a session of both cores keeps what a trial asks
@@ -9,7 +11,22 @@ trial-requires-clause-written g c = λ ran post.
     c.args.layout.now c.args.device.inner.bytes c.requires.table c.args.aim.now c.args.image.now
     c.args.device ran (post.1.0 c.args.layout.now c.requires.table.layout_is)
 
--- and so does a confirmation
+-- a confirmation of both cores may be run on what a boot leaves
+pub trial-requires-clause-may_confirm : goal.trial-requires-clause-may_confirm
+trial-requires-clause-may_confirm g c = λ dev at write may. (
+  c.requires.core,
+  (
+    (
+      c.args.layout.now,
+      c.requires.table.layout_is,
+      may_affirm c.args.duo.now.table.now c.args.duo.now.script.now c.args.duo.now.driver
+          c.args.layout.now c.args.device.inner.bytes c.requires.table dev at.now write.now may,
+    ),
+    search rules,
+  ),
+)
+
+-- and keeps what a trial asks
 pub trial-requires-clause-confirmed : goal.trial-requires-clause-confirmed
 trial-requires-clause-confirmed g c = λ dev at write ran may post.
     duo_affirms c.args.duo.now.table.now c.args.duo.now.script.now c.args.duo.now.driver
