@@ -14,7 +14,7 @@ use std::alloc::Global;
 use std::test::Fail;
 
 /// The refusals of files, tables and their sources.
-fn of_tables<'a>() -> [(Refusal, &'a str); 17] {
+fn of_tables<'a>() -> [(Refusal, &'a str); 18] {
     [
         (Refusal::Absent { file: 4 }, "absent "),
         (Refusal::FlashSize { size: 3 }, "flash size 3"),
