@@ -7,3 +7,4 @@ pub mod PlanFacts
 pub mod Answers
 pub mod Loads
 pub mod View
+pub mod LoaderView
