@@ -51,6 +51,7 @@ impl Model for Frame {
 }
 
 /// What a scan found.
+#[derive(Clone, Copy)]
 pub(crate) struct Scan {
     /// How many bytes it took.
     pub(crate) taken: usize,
@@ -90,6 +91,7 @@ impl Frame {
     pub(crate) fn scan(&mut self, piece: &[u8]) -> Scan
         ensures taken { result.taken ≡ taken_from self.old piece.now }
         ensures within { result.taken ≤ length piece.now }
+        ensures some { 1 ≤ length piece.now → 1 ≤ result.taken }
         ensures next { result.ended ≡ false
             → self.new ≡ behind_after self.old (take result.taken piece.now) }
         ensures none { result.ended ≡ false

@@ -14,7 +14,5 @@ mod tests;
 mod work;
 
 pub use fault::LoadNo;
-pub use laws::{
-    laws_of_begun_blocks, laws_of_frames, laws_of_pieces, streams_are_the_same_in_any_pieces,
-};
+pub use laws::{laws_of_frames, laws_of_pieces, streams_are_the_same_in_any_pieces};
 pub use loader::{Fed, Loader};

@@ -1,6 +1,6 @@
 //! The loader: it takes pieces of a stream, and answers the requests in it.
 
-ghost use Rattle.std.specs.Prelude.{◌≡◌, ◌↔◌, ◌≤◌, ◌<◌, ◌^◌, ◌×◌, [], ◌∷◌, length, take, None, Some, IfSome, IfNone, IfOk, IfErr, OnOk, OnErr, Ok, Err};
+ghost use Rattle.std.specs.Prelude.{◌≡◌, ◌↔◌, ◌≤◌, ◌<◌, ◌^◌, [], ◌∷◌, length, take, None, Some, IfSome, IfNone, IfOk, IfErr, OnOk, OnErr, Ok, Err};
 ghost use Rattle.std.specs.Option.{option_map, option_to_list};
 ghost use Rattle.nor_device.specs.Nor.{KeepsSetting};
 ghost use Rattle.crash_images.specs.Crash.{IsAfterAll, IsLeftOf};
@@ -79,6 +79,7 @@ impl Loader {
             × (device.new ≡ device.old)) }
         ensures taken { IfOk result (λ fed. fed.taken ≡ taken_from self.old.state.behind piece.now) }
         ensures within { IfOk result (λ fed. fed.taken ≤ length piece.now) }
+        ensures some { IfOk result (λ fed. 1 ≤ length piece.now → 1 ≤ fed.taken) }
         ensures state { IfOk result (λ fed. self.new.state
             ≡ state_after self.old.state (take fed.taken piece.now)) }
         ensures sound { OnOk result (self.new.failed ≡ None) }

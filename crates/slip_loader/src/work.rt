@@ -1,7 +1,7 @@
 //! Work on a device: erases, programs, digests.
 
-ghost use Rattle.std.specs.Prelude.{◌≡◌, ◌≤◌, ◌<◌, ◌+◌, ◌%◌, ◌^◌, ℕ, List, None, Some, IfSome, IfOk, OnOk, length};
-ghost use Rattle.md5.specs.Md5.{md5};
+ghost use Rattle.std.specs.Prelude.{◌≡◌, ◌≤◌, ◌<◌, ◌+◌, ◌%◌, ◌^◌, ◌++◌, ℕ, List, None, Some, IfSome, IfOk, OnOk, length};
+ghost use Rattle.md5.specs.Md5.{Holds, md5};
 ghost use Rattle.nor_device.specs.Nor.{IsIdleAsBefore, KeepsSetting, KeepsSteps, part_of};
 ghost use Rattle.crash_images.specs.Crash.{IsAfterAll, IsLeftOf};
 ghost use Rattle.flash_steps.specs.Steps.{erase_steps, write_steps};
