@@ -1,2 +1,2 @@
 pub mod StreamLemmas
-mod PartLemmas
+pub mod WorkLemmas
