@@ -12,7 +12,7 @@ use Rattle.nor_device.specs.Nor.{HasCause, Rose, one_more}
 use Rattle.crash_images.specs.Crash.{IsAfterAll, IsLeftOf}
 use Rattle.crash_images.proofs.LeftLaws.{left_end}
 use Rattle.crash_images.proofs.LeftOf.{after_both, after_more, after_none, left_of_back, left_of_front, left_of_torn}
-use Rattle.flash_steps.specs.Steps.{erase_steps}
+use Rattle.flash_steps.specs.Steps.{erase_steps, erases}
 use Rattle.flash_steps.proofs.EraseLemmas.{one_erase, pieces_of_erase}
 use Rattle.slip_loader.specs.Loads.{ComesOf, count_after}
 
@@ -156,3 +156,17 @@ writing_torn all left rest step was now old told new is w torn =
     ∙ ap (λ (l : List Step). w.made ++ l) is ∙ sym (append_assoc w.made (step ∷ []) rest) in
     subst (λ (l : List Step). IsLeftOf l old new) (sym same)
     (left_of_next w.made rest step old told new w.bytes torn)
+
+-- at first no sector is erased
+pub erase_none : (at sector : ℕ) → sector * 4096 ≤ at → erase_steps at (sector * 4096 - at) ≡ []
+unfolding erase_steps erases
+erase_none at sector below =
+    let none : sector * 4096 - at ≡ 0 = omega arith in
+    ap (erase_steps at) none
+
+-- at the end all are
+pub erase_whole : (at len sector : ℕ) → sector * 4096 ≡ at + len
+    → erase_steps at (sector * 4096 - at) ≡ erase_steps at len
+erase_whole at len sector is =
+    let same : sector * 4096 - at ≡ len = omega (arith, is) in
+    ap (erase_steps at) same
