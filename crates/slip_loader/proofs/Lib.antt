@@ -1,3 +1,4 @@
 pub mod StreamLemmas
 pub mod PartLemmas
+pub mod FrameLemmas
 pub mod WorkLemmas

@@ -177,7 +177,7 @@ part_means part = (both_parts part []).0 ∙ same_rest (decoded_by part false)
 
 all_mean : (parts : List (List ℕ))
     → flat_map (gives (within [])) parts
-    ≡ flat_map (λ part. asked_by (decoded_by part false)) parts
+    ≡ flat_map (λ (part : List ℕ). asked_by (decoded_by part false)) parts
 all_mean [] = refl
 all_mean (part ∷ parts) =
     ap (λ (front : List (List ℕ)). front ++ flat_map (gives (within [])) parts) (part_means part)

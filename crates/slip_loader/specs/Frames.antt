@@ -80,7 +80,7 @@ asked_by (Some frame) = if is_request frame then frame ∷ [] else []
 
 -- the requests of a stream, in order
 unfoldable pub requests_of : List ℕ → List (List ℕ)
-requests_of stream = flat_map (λ part. asked_by (decoded_by part false)) (parts_between stream)
+requests_of stream = flat_map (λ (part : List ℕ). asked_by (decoded_by part false)) (parts_between stream)
 
 -- ---- the same, byte by byte
 
