@@ -11,7 +11,9 @@ use Rattle.nor_device.specs.declared.nor.NorFault.TheVariants.{Failed, Off}
 use Rattle.nor_device.specs.declared.nor.StepEnd.{StepEnd}
 use Rattle.nor_device.specs.declared.nor.StepEnd.TheVariants as ends
 use Rattle.nor_device.specs.Flash.{start_of, len_of, end_of, applied}
-use Rattle.nor_device.specs.Nor.{HasCause, IsPart, IsMadeWhole, part_of}
+use Rattle.nor_device.specs.declared.nor.Ready.{Ready}
+use Rattle.nor_device.specs.declared.nor.Ready.TheVariants as answers
+use Rattle.nor_device.specs.Nor.{HasCause, KeepsSteps, IsIdleAsBefore, StillRuns, IsPart, IsMadeWhole, part_of}
 use Rattle.nor_device.proofs.TornLaws.{torn_applied}
 use Rattle.crash_images.specs.Agrees.{IsBeside}
 use Rattle.crash_images.proofs.AgreesLaws.{agrees_part, within_of_torn}
@@ -86,6 +88,16 @@ part_of_part flash from within len inside =
     ∙ sym (get_or-take len (drop (from + within) flash) i 0 short
     ∙ get_or-drop (from + within) flash i 0))
 
+-- a part of a line that shows what is told
+pub line_part : (told : Option (List ℕ)) (at from len : ℕ) (line out : List ℕ) → from ≡ at - at % 32
+    → at % 32 + len ≤ 32 → IsPart told from 32 line → out ≡ take len (drop (at % 32) line)
+    → IsPart told at len out
+line_part None at from len line out place inside shows is = tt
+line_part (Some flash) at from len line out place inside shows is =
+    let e : from + at % 32 ≡ at = omega arith in
+    is ∙ ap (λ (part : List ℕ). take len (drop (at % 32) part)) shows
+    ∙ part_of_part flash from (at % 32) len inside ∙ ap (λ (n : ℕ). part_of flash n len) e
+
 -- two parts, one behind the other
 pub parts_join : (flash out : List ℕ) (at front : ℕ) → front ≤ length out
     → take front out ≡ part_of flash at front
@@ -124,6 +136,15 @@ parts_join flash out at front inside first rest =
           ∙ get_or-drop (at + front) flash k 0 ∙ ap (slice_index flash) there
           ∙ sym (get_or-take n (drop at flash) i 0 less ∙ get_or-drop at flash i 0)
     ])
+
+-- where it is told
+pub told_join : (told : Option (List ℕ)) (out : List ℕ) (at front : ℕ) → front ≤ length out
+    → IsPart told at front (take front out)
+    → IsPart told (at + front) (length out - front) (drop front out)
+    → IsPart told at (length out) out
+told_join None out at front inside first rest = tt
+told_join (Some flash) out at front inside first rest =
+    parts_join flash out at front inside first rest
 
 module _ {D S : Type 0}
     (bytes : D → Option (List ℕ)) (running : D → Option Step) (off : D → Bool)
@@ -264,6 +285,29 @@ module _ {D S : Type 0}
         (subst (λ (n : ℕ). ¬ must_refuse (setting old) n) (sym count) stopped);
   }
 
+  -- a poll that was answered
+  pub polled_true : (left size : D → ℕ) (may_end : S → ℕ → StepEnd → Type 0)
+      (goes_on : (set : S) (n : ℕ) → may_end set n ends.Done → ¬ must_refuse set n)
+      (old new : D) (lines : List Line) (ready : Ready) → IsSome (running old)
+      → (Ok {E = NorFault} ready ≡ Ok answers.Busy → StillRuns bytes running left old new)
+      → (Ok {E = NorFault} ready ≡ Ok answers.Ready → running new ≡ None)
+      → (Ok {E = NorFault} ready ≡ Ok answers.Ready
+      → IsMadeWhole (running old) (bytes old) (bytes new))
+      → (Ok {E = NorFault} ready ≡ Ok answers.Ready → may_end (setting old) (steps old) ends.Done)
+      → KeepsSteps size setting steps old new
+      → HasCause {T = Ready} (faults old) (faults new) (off new) (Ok ready)
+      → AllHold old lines → AllHold new lines
+  polled_true left size may_end goes_on old new lines answers.Busy some busy ended whole done keeps
+      cause h =
+      let on = power_on answers.Busy (faults old) (faults new) (off new) cause in
+      let still = busy refl in
+      busy_true old new lines still.bytes_same still.running_same some on h
+  polled_true left size may_end goes_on old new lines answers.Ready some busy ended whole done keeps
+      cause h =
+      let on = power_on answers.Ready (faults old) (faults new) (off new) cause in
+      made_true may_end goes_on old new lines some (whole refl) (ended refl) on (done refl)
+      keeps.setting_same keeps.steps_same h
+
   -- one line of all is another that is true
   pub set_true : (dev : D) (lines : List Line) (place : ℕ) (line : Line) → Holds dev line
       → AllHold dev lines → AllHold dev (set lines place line)
@@ -271,6 +315,20 @@ module _ {D S : Type 0}
     told = h.told;
     lines_true = All-set (Holds dev) lines place line is h.lines_true;
   }
+
+  -- a line that was read stands with the others
+  pub loaded_true : (size : D → ℕ) (old new : D) (lines : List Line) (place from : ℕ)
+      (out : List ℕ) → IsPart (bytes old) from 32 out → IsIdleAsBefore bytes running old new
+      → KeepsSteps size setting steps old new → ¬ must_refuse (setting old) (steps old)
+      → HasCause {T = Unit {0}} (faults old) (faults new) (off new) (Ok tt) → AllHold old lines
+      → AllHold new (set lines place (record { at = from; held = true; bytes = out }))
+  loaded_true size old new lines place from out part idle keeps stopped cause h =
+      let on = power_on tt (faults old) (faults new) (off new) cause in
+      set_true new lines place (record { at = from; held = true; bytes = out })
+      (read_true old new from out part idle.bytes_same idle.idle on stopped keeps.setting_same
+      keeps.steps_same)
+      (idle_true old new lines idle.bytes_same idle.idle on stopped keeps.setting_same
+      keeps.steps_same h)
 
   module _ (size : D → ℕ) (may_refuse : S → ℕ → NorFault → Type 0) where
     -- what a device may answer that has a line
@@ -296,12 +354,3 @@ module _ {D S : Type 0}
 
       no_fault : (why : NorFault) → ◌≡◌ {A = Result (Unit {0}) NorFault} (Ok tt) (Err why) → ⊥
       no_fault why e = cc
-
-    -- lines that are true, behind a read that was answered
-    pub asks_true : (old new : D) (lines : List Line) → running new ≡ None
-        → Asks bytes size off steps faults setting may_refuse must_refuse old new (Ok tt)
-        → AllHold old lines → AllHold new lines
-    asks_true old new lines idle asks h =
-        idle_true old new lines asks.told idle
-        (power_on tt (faults old) (faults new) (off new) asks.cause) asks.stopped
-        asks.setting_same asks.steps_same h

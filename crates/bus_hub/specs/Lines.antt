@@ -1,5 +1,5 @@
 -- The lines of the cores: when they hold what the device holds.
-use Rattle.std.specs.Prelude.{◌≡◌, ◌⊎◌, ℕ, ◌+◌, ◌<◌, ◌≤◌, Bool, true, false, List, Option, Some, None}
+use Rattle.std.specs.Prelude.{◌≡◌, ◌⊎◌, ℕ, ◌+◌, ◌<◌, ◌≤◌, Bool, true, false, List, [], slice_index_or, Option, Some, None}
 use Rattle.std.specs.List.{All}
 use Rattle.nor_device.specs.declared.step.Step.{Step}
 use Rattle.nor_device.specs.Flash.{start_of, len_of, end_of}
@@ -19,6 +19,21 @@ DoesMeet at len from = (from < at + len) × (at < from + 32)
 pub record IsLeftBy (at len : ℕ) (old new : Line) : Type 0 where
   pub same : new.held ≡ true → new ≡ old
   pub beside : new.held ≡ true → ¬ DoesMeet at len new.at
+
+-- the same by the range of a step
+abbrev pub IsLeftFor : Step → Line → Line → Type 0
+IsLeftFor step old new = IsLeftBy (start_of step) (len_of step) old new
+
+-- a line that holds nothing, and the line at a place
+abbrev pub no_line : Line
+no_line = record { at = 0; held = false; bytes = [] }
+
+abbrev pub line_at : List Line → ℕ → Line
+line_at lines place = slice_index_or lines place no_line
+
+-- the line holds the bytes from the address on
+abbrev pub DoesHold : Line → ℕ → Type 0
+DoesHold line from = (line.held ≡ true) × (line.at ≡ from)
 
 -- the 32 bytes from the address on lie beside the range of the step that runs
 abbrev pub IsBesideStep : Option Step → ℕ → Type 0

@@ -1,13 +1,12 @@
 //! The device behind the lines of both cores. A read by lines makes calls of the device for those
 //! alone that are not held; a step drops the lines that it meets, and a refusal drops all.
 
-ghost use Rattle.std.specs.Prelude.{◌≡◌, ℕ, ◌+◌, ◌-◌, ◌%◌, ◌<◌, ◌≤◌, true, None, OnOk, OnErr, length};
+ghost use Rattle.std.specs.Prelude.{◌≡◌, ◌+◌, ◌-◌, ◌%◌, ◌<◌, ◌≤◌, None, OnOk, length};
 ghost use Rattle.nor_device.specs.Nor.{IsPart};
 ghost use Rattle.bus_hub.specs.Hub.{IsTold};
 ghost use Rattle.bus_hub.specs.Told.{Asks};
-ghost use Rattle.bus_hub.specs.Lines.{IsTrueLine};
 
-use crate::line::{CORE_LINES, LINE_SIZE, Line, drop_for, no_lines};
+use crate::line::{CORE_LINES, LINE_SIZE, Line, copy_line, copy_part, drop_for, is_held, no_lines};
 use crash_images::Crash;
 use nor_device::{Nor, NorFault, Ready, Step};
 use std::marker::Model;
@@ -21,9 +20,9 @@ pub(crate) struct Cached<D: Crash> {
 
 // Clauses see the device alone: a line that is held shows what it holds.
 impl<D: Crash> Model for Cached<D> {
-    ghost Value = { D };
-
     ghost use Rattle.bus_hub.specs.Lines.{AreTrue};
+
+    ghost Value = { D };
 
     ghost view = { λ c. c.dev };
 
@@ -41,32 +40,6 @@ fn place_of(core: u8, from: u32) -> usize
     } else {
         (CORE_LINES + place) as usize
     }
-}
-
-/// Reads the line from the device, unless it is held.
-fn hold<D: Crash>(dev: &mut D, line: &mut Line, from: u32) -> Result<(), NorFault>
-    requires idle { D.running dev.old ≡ None }
-    requires inside { from + 32 ≤ D.size dev.old }
-    requires line { IsTrueLine D.bytes D.running D.off D.steps D.setting D.must_refuse
-        dev.old line.old }
-    ensures bytes { OnOk result (IsPart (D.bytes dev.old) from 32 line.new.bytes) }
-    ensures line { OnOk result (IsTrueLine D.bytes D.running D.off D.steps D.setting D.must_refuse
-        dev.new line.new) }
-    ensures idle { D.running dev.new ≡ None }
-    ensures device { Asks D.bytes D.size D.off D.steps D.faults D.setting D.may_refuse D.must_refuse
-        dev.old dev.new result }
-{
-    if line.held && line.at == from {
-        return Ok(());
-    }
-    let mut bytes = [0; 32];
-    dev.read(from, &mut bytes)?;
-    *line = Line {
-        at: from,
-        held: true,
-        bytes,
-    };
-    Ok(())
 }
 
 impl<D: Crash> Cached<D> {
@@ -88,6 +61,36 @@ impl<D: Crash> Cached<D> {
         self.dev
     }
 
+    /// Reads a line from the device into its place, and copies the part of it from the address on.
+    fn load_line(&mut self, place: usize, at: u32, out: &mut [u8]) -> Result<(), NorFault>
+        requires idle { D.running self.old ≡ None }
+        requires place { place < 128 }
+        requires inside { at - at % 32 + 32 ≤ D.size self.old }
+        requires line { at % 32 + length out.old ≤ 32 }
+        ensures bytes { OnOk result (IsPart (D.bytes self.old) at (length out.old) out.new) }
+        ensures idle { D.running self.new ≡ None }
+        ensures device { Asks D.bytes D.size D.off D.steps D.faults D.setting D.may_refuse
+            D.must_refuse self.old self.new result }
+    {
+        let from = at - at % LINE_SIZE;
+        let mut bytes = [0; 32];
+        match self.dev.read(from, &mut bytes) {
+            Ok(()) => {
+                copy_part(&bytes, at, out);
+                self.lines[place] = Line {
+                    at: from,
+                    held: true,
+                    bytes,
+                };
+                Ok(())
+            }
+            Err(why) => {
+                self.lines = no_lines();
+                Err(why)
+            }
+        }
+    }
+
     /// Reads a part of a line of the core.
     fn read_line(&mut self, core: u8, at: u32, out: &mut [u8]) -> Result<(), NorFault>
         requires idle { D.running self.old ≡ None }
@@ -98,24 +101,16 @@ impl<D: Crash> Cached<D> {
         ensures device { Asks D.bytes D.size D.off D.steps D.faults D.setting D.may_refuse
             D.must_refuse self.old self.new result }
     {
-        let within = at % LINE_SIZE;
-        let from = at - within;
+        let from = at - at % LINE_SIZE;
         if self.dev.size() - from < LINE_SIZE {
             return self.read(at, out);
         }
         let place = place_of(core, from);
-        let line = &mut self.lines[place];
-        match hold(&mut self.dev, line, from) {
-            Ok(()) => {
-                let start = within as usize;
-                out.copy_from_slice(&line.bytes[start..start + out.len()]);
-                Ok(())
-            }
-            Err(why) => {
-                self.lines = no_lines();
-                Err(why)
-            }
+        if is_held(&self.lines, place, from) {
+            copy_line(&self.lines, place, at, out);
+            return Ok(());
         }
+        self.load_line(place, at, out)
     }
 
     /// Reads the bytes from the address on by the lines of the core.

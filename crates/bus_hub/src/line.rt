@@ -1,10 +1,10 @@
 //! The lines of both cores: copies of aligned pieces of the flash.
 
-ghost use Rattle.std.specs.Prelude.{◌≡◌, ℕ, ◌+◌, ◌<◌, ◌≤◌, ◌^◌, ◌↔◌, IsTrue, false, length, slice_index_or};
+ghost use Rattle.std.specs.Prelude.{◌≡◌, ℕ, ◌+◌, ◌%◌, ◌<◌, ◌≤◌, ◌^◌, ◌↔◌, IsTrue, length, take, drop, slice_index_or};
 ghost use Rattle.std.specs.List.{All};
 ghost use Rattle.nor_device.specs.Flash.{end_of};
 ghost use Rattle.bus_hub.specs.declared.line.Line.{Line};
-ghost use Rattle.bus_hub.specs.Lines.{IsEmptyLine, IsLeftBy, DoesMeet};
+ghost use Rattle.bus_hub.specs.Lines.{IsEmptyLine, IsLeftBy, IsLeftFor, DoesMeet, DoesHold, line_at};
 
 use nor_device::Step;
 
@@ -44,6 +44,15 @@ impl Line {
         let from = u64::from(self.at);
         from < u64::from(at) + u64::from(len) && u64::from(at) < from + u64::from(LINE_SIZE)
     }
+
+    /// Drops it where it meets the bytes from the address on.
+    fn drop_within(&mut self, at: u32, len: u32)
+        ensures left { IsLeftBy at len self.old self.new }
+    {
+        if self.meets(at, len) {
+            self.held = false;
+        }
+    }
 }
 
 /// Drops each line that meets the bytes from the address on.
@@ -52,9 +61,7 @@ fn drop_range(lines: &mut [Line], at: u32, len: u32)
         → IsLeftBy at len (slice_index_or lines.old k d) (slice_index_or lines.new k d) }
 {
     for line in lines.iter_mut() {
-        if line.meets(at, len) {
-            line.held = false;
-        }
+        line.drop_within(at, len);
     }
 }
 
@@ -66,4 +73,33 @@ pub(crate) fn drop_for(lines: &mut [Line], step: &Step)
 {
     let (at, len) = step.range();
     drop_range(lines, at, len);
+}
+
+/// Whether the line at the place holds the bytes from the address on.
+pub(crate) fn is_held(lines: &[Line], place: usize, from: u32) -> bool
+    requires inside { place < length lines.now }
+    ensures meaning { IsTrue result ↔ DoesHold (line_at lines.now place) from }
+{
+    let line = &lines[place];
+    line.held && line.at == from
+}
+
+/// Copies those bytes of a line that begin at the address.
+pub(crate) fn copy_part(bytes: &[u8; 32], at: u32, out: &mut [u8])
+    requires inside { at % 32 + length out.old ≤ 32 }
+    ensures exact { out.new ≡ take (length out.old) (drop (at % 32) bytes.now) }
+{
+    let start = (at % LINE_SIZE) as usize;
+    let end = start + out.len();
+    out.copy_from_slice(&bytes[start..end]);
+}
+
+/// Copies the same of the line at the place.
+pub(crate) fn copy_line(lines: &[Line], place: usize, at: u32, out: &mut [u8])
+    requires place { place < length lines.now }
+    requires inside { at % 32 + length out.old ≤ 32 }
+    ensures exact { out.new ≡ take (length out.old) (drop (at % 32) (line_at lines.now place).bytes) }
+{
+    let line = &lines[place];
+    copy_part(&line.bytes, at, out);
 }

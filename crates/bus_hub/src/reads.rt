@@ -17,7 +17,7 @@ use crate::span::{Span, read_parts, span_in};
 use core_state::{Records, Regs};
 use crash_images::Crash;
 use image_layout::is_data;
-use nor_device::NorFault;
+use nor_device::{Nor, NorFault};
 
 /// Why nothing was fetched, in this order.
 #[derive(Clone, Copy, Debug, PartialEq, Eq)]
