@@ -1,9 +1,10 @@
 -- What the calls of the device leave of lines that are true of it.
-use Rattle.std.specs.Prelude.{◌≡◌, ℕ, ◌+◌, ◌-◌, ◌<◌, ◌≤◌, Bool, true, false, List, length, take, drop, slice_index, slice_index_or, refl, Option, Some, None, IsSome, IfSome, Result, Ok, Err, OnOk}
+use Rattle.std.specs.Prelude.{◌≡◌, ℕ, ◌+◌, ◌-◌, ◌%◌, ◌<◌, ◌≤◌, Bool, true, false, List, [], ◌++◌, length, take, drop, slice_index, slice_index_or, refl, Option, Some, None, IsSome, IfSome, Result, Ok, Err, OnOk}
 use Rattle.std.specs.List.{All}
-use Rattle.std.proofs.Common.{◌∙◌, sym, ap, subst, inl, inr, arith, set, length-drop}
+use Rattle.std.proofs.Common.{◌∙◌, sym, ap, subst, inl, inr, arith, set, length-drop, length-append}
 use Rattle.std.proofs.lemmas.Bool.{cases_lt}
-use Rattle.std.proofs.lemmas.List.{ext_get_or, length-take, get_or-take, get_or-drop, length-set}
+use Rattle.std.proofs.lemmas.List.{append-nil, drop_all, drop_at, ext_get_or, length-take, get_or-take, get_or-drop, take_at}
+use borrow.Rule.Slice.PartMut.{post_of}
 use Rattle.std.proofs.lemmas.List.Elements.{All-set}
 use Rattle.nor_device.specs.declared.step.Step.{Step}
 use Rattle.nor_device.specs.declared.nor.NorFault.{NorFault}
@@ -45,7 +46,7 @@ beside_part flash step from apart =
 made_part : (run : Option Step) (old new : Option (List ℕ)) (from : ℕ) (out : List ℕ) → IsTold old
     → IsSome run → IsMadeWhole run old new → IsBesideStep run from → IsPart old from 32 out
     → IsPart new from 32 out
-made_part None old new from out told some made beside part = absurd some
+made_part None old new from out told some made beside part = absurd (clash false refl some)
 made_part (Some step) None new from out told some made beside part = absurd (none told.is) where
   none : {flash : List ℕ} → None ≡ Some flash → ⊥
   none e = cc
@@ -55,7 +56,7 @@ made_part (Some step) (Some flash) new from out told some made beside part =
 
 made_told : (run : Option Step) (old new : Option (List ℕ)) → IsTold old → IsSome run
     → IsMadeWhole run old new → IsTold new
-made_told None old new told some made = absurd some
+made_told None old new told some made = absurd (clash false refl some)
 made_told (Some step) None new told some made = absurd (none told.is) where
   none : {flash : List ℕ} → None ≡ Some flash → ⊥
   none e = cc
@@ -145,6 +146,34 @@ pub told_join : (told : Option (List ℕ)) (out : List ℕ) (at front : ℕ) →
 told_join None out at front inside first rest = tt
 told_join (Some flash) out at front inside first rest =
     parts_join flash out at front inside first rest
+
+-- what two reads leave, the first of the front and the second of the rest
+pub both_read : (told : Option (List ℕ)) (at front : ℕ) (out first rest : List ℕ)
+    → front ≤ length out → length first ≡ front → length rest ≡ length out - front
+    → IsPart told at front first → IsPart told (at + front) (length out - front) rest
+    → IsPart told at (length out)
+    (take front (first ++ drop front out)
+    ++ (rest ++ post_of front (length (first ++ drop front out) - front)
+    (first ++ drop front out)))
+both_read told at front out first rest inside long others shown then =
+    let mid = first ++ drop front out in
+    let all = first ++ rest in
+    let none : post_of front (length mid - front) mid ≡ [] =
+    drop_all (length mid - front) (drop front mid) (omega (arith, length-drop front mid)) in
+    let is : take front mid ++ (rest ++ post_of front (length mid - front) mid) ≡ all =
+    ap (λ (xs : List ℕ). xs ++ (rest ++ post_of front (length mid - front) mid))
+    (take_at first (drop front out) front long)
+    ∙ ap (λ (xs : List ℕ). first ++ (rest ++ xs)) none
+    ∙ ap (λ (xs : List ℕ). first ++ xs) (append-nil rest) in
+    let many : length all ≡ length out =
+    omega (arith, length-append first rest, long, others, inside) in
+    subst (λ (xs : List ℕ). IsPart told at (length out) xs) (sym is)
+    (subst (λ (n : ℕ). IsPart told at n all) many
+    (told_join told all at front (omega (arith, many, inside))
+    (subst (λ (xs : List ℕ). IsPart told at front xs) (sym (take_at first rest front long)) shown)
+    (subst (λ (n : ℕ). IsPart told (at + front) (n - front) (drop front all)) (sym many)
+    (subst (λ (xs : List ℕ). IsPart told (at + front) (length out - front) xs)
+    (sym (drop_at first rest front long)) then))))
 
 module _ {D S : Type 0}
     (bytes : D → Option (List ℕ)) (running : D → Option Step) (off : D → Bool)
@@ -245,7 +274,7 @@ module _ {D S : Type 0}
         };
   } where
     not_none : (r : Option Step) → IsSome r → r ≡ None → ⊥
-    not_none None some is = absurd some
+    not_none None some is = absurd (clash false refl some)
     not_none (Some step) some is = cc
 
   -- the end of a step that was made whole
@@ -289,11 +318,11 @@ module _ {D S : Type 0}
   pub polled_true : (left size : D → ℕ) (may_end : S → ℕ → StepEnd → Type 0)
       (goes_on : (set : S) (n : ℕ) → may_end set n ends.Done → ¬ must_refuse set n)
       (old new : D) (lines : List Line) (ready : Ready) → IsSome (running old)
-      → (Ok {E = NorFault} ready ≡ Ok answers.Busy → StillRuns bytes running left old new)
-      → (Ok {E = NorFault} ready ≡ Ok answers.Ready → running new ≡ None)
-      → (Ok {E = NorFault} ready ≡ Ok answers.Ready
+      → (◌≡◌ {A = Result Ready NorFault} (Ok ready) (Ok answers.Busy) → StillRuns bytes running left old new)
+      → (◌≡◌ {A = Result Ready NorFault} (Ok ready) (Ok answers.Ready) → running new ≡ None)
+      → (◌≡◌ {A = Result Ready NorFault} (Ok ready) (Ok answers.Ready)
       → IsMadeWhole (running old) (bytes old) (bytes new))
-      → (Ok {E = NorFault} ready ≡ Ok answers.Ready → may_end (setting old) (steps old) ends.Done)
+      → (◌≡◌ {A = Result Ready NorFault} (Ok ready) (Ok answers.Ready) → may_end (setting old) (steps old) ends.Done)
       → KeepsSteps size setting steps old new
       → HasCause {T = Ready} (faults old) (faults new) (off new) (Ok ready)
       → AllHold old lines → AllHold new lines
@@ -344,6 +373,9 @@ module _ {D S : Type 0}
       stopped = h.answers held idle;
       cause = still_on (faults dev) (off dev) (h.on held);
     } where
+      no_fault : (why : NorFault) → ◌≡◌ {A = Result (Unit {0}) NorFault} (Ok tt) (Err why) → ⊥
+      no_fault why e = cc
+
       still_on : (n : ℕ) (b : Bool) → b ≡ false → HasCause {T = Unit {0}} n n b (Ok tt)
       still_on n b fails = record {
         later = omega arith;
@@ -351,6 +383,3 @@ module _ {D S : Type 0}
         else_same = λ other. refl;
         off_is = (λ is. absurd (no_fault Off is), λ gone. absurd (clash b fails gone));
       }
-
-      no_fault : (why : NorFault) → ◌≡◌ {A = Result (Unit {0}) NorFault} (Ok tt) (Err why) → ⊥
-      no_fault why e = cc

@@ -123,6 +123,8 @@ impl<D: Crash> Cached<D> {
         ensures device { Asks D.bytes D.size D.off D.steps D.faults D.setting D.may_refuse
             D.must_refuse self.old self.new result }
     {
+        // No address of the flash is past 32 bits.
+        let _size = self.size();
         let front = out.len().min((LINE_SIZE - at % LINE_SIZE) as usize);
         self.read_line(core, at, &mut out[..front])?;
         if front < out.len() {
