@@ -1,10 +1,13 @@
 //! Rows from outside of the commands on what boots: calls one after the other on one store.
 
-use crate::image_tests::{first_other, store_of_all};
-use crate::tests::{BLANK_LINES, USAGE, write};
+use crate::image_tests::store_of_all;
+use crate::tests::write;
+use crate::transcript::first_other;
 use pipe_ends::{GetFault, MemStore, Store};
-use std::alloc::{AllocError, Global};
+use std::alloc::Global;
+use std::sync::Wait;
 use std::test::Fail;
+use std::thread::Threads;
 
 /// Where the OTA data, the second sector of them, factory and slot 0 begin.
 pub(crate) const OTADATA: usize = 0xD000;
@@ -43,19 +46,25 @@ pub(crate) fn put_changed(
     Ok(())
 }
 
+/// What the flashes are made of.
+const MADE: &str = "\
+$ table-make t.csv T
+rows 6
+$ image-make a.plan A
+length 80
+$ image-make b.plan B
+length 80
+$ flash-make T A 4194304 F0
+length 80
+";
+
 /// A store with the flash F0 of a factory, and with flashes after an update of its slot 0.
-pub(crate) fn store_of_flashes(alloc: Global) -> Result<MemStore, Fail> {
+pub(crate) fn store_of_flashes<R: Threads + Wait + Sync>(
+    rt: &R,
+    alloc: Global,
+) -> Result<MemStore, Fail> {
     let mut store = store_of_all(alloc)?;
-    let made = first_other(
-        alloc,
-        &[
-            (&["table-make", "t.csv", "T"], 0, "rows 6\n"),
-            (&["image-make", "a.plan", "A"], 0, "length 80\n"),
-            (&["image-make", "b.plan", "B"], 0, "length 80\n"),
-            (&["flash-make", "T", "A", "4194304", "F0"], 0, "length 80\n"),
-        ],
-        &mut store,
-    )?;
+    let made = first_other(rt, alloc, &mut store, MADE)?;
     if made.is_some() {
         return Err(Fail::new("what the flashes are made of"));
     }
@@ -75,9 +84,9 @@ pub(crate) fn store_of_flashes(alloc: Global) -> Result<MemStore, Fail> {
         "F1",
         &[(SLOT, &image), (OTADATA, &valid)],
     )?;
-    put_changed(alloc, &mut store, "F0", "no factory", &[(FACTORY, &[0])])?;
-    put_changed(alloc, &mut store, "F1", "slot alone", &[(FACTORY, &[0])])?;
-    put_changed(alloc, &mut store, "F0", "no table", &[(0x8000, &[0])])?;
+    put_changed(alloc, &mut store, "F0", "no_factory", &[(FACTORY, &[0])])?;
+    put_changed(alloc, &mut store, "F1", "slot_alone", &[(FACTORY, &[0])])?;
+    put_changed(alloc, &mut store, "F0", "no_table", &[(0x8000, &[0])])?;
     put_changed(
         alloc,
         &mut store,
@@ -88,64 +97,84 @@ pub(crate) fn store_of_flashes(alloc: Global) -> Result<MemStore, Fail> {
     Ok(store)
 }
 
-/// A call: its words, the code of its status, and what it prints.
-pub(crate) type Call<'a> = (&'a [&'a str], u8, &'a str);
-
-/// The lines of flashes whose first entry has sequence 1, and this state.
-const NEW_LINES: &str = "entry 0 seq 1 state NEW valid
-entry 1 seq 4294967295 state UNDEFINED invalid
-names ota_0
-boots ota_0 80
-";
-
-const WAITING_LINES: &str = "entry 0 seq 1 state PENDING_VERIFY valid
-entry 1 seq 4294967295 state UNDEFINED invalid
-names ota_0
-boots factory 80
-";
-
-const REJECTED_LINES: &str = "entry 0 seq 1 state INVALID invalid
+/// The calls that are carried out, in order.
+const DONE: &str = "\
+$ choose F0
+entry 0 seq 4294967295 state UNDEFINED invalid
 entry 1 seq 4294967295 state UNDEFINED invalid
 names factory
 boots factory 80
+$ choose updated
+entry 0 seq 1 state NEW valid
+entry 1 seq 4294967295 state UNDEFINED invalid
+names ota_0
+boots ota_0 80
+$ boot updated Y
+booted ota_0 80
+steps 2
+$ choose Y
+entry 0 seq 1 state PENDING_VERIFY valid
+entry 1 seq 4294967295 state UNDEFINED invalid
+names ota_0
+boots factory 80
+$ boot Y Z
+booted factory 80
+steps 2
+$ confirm Y W
+confirmed ota_0
+steps 2
+$ confirm W V
+confirmed ota_0
+steps 0
+$ reject F1 R
+rejected ota_0
+steps 2
+$ choose R
+entry 0 seq 1 state INVALID invalid
+entry 1 seq 4294967295 state UNDEFINED invalid
+names factory
+boots factory 80
+$ confirm tie C
+confirmed ota_0
+steps 2
 ";
 
-/// The calls that are carried out, in order.
-fn done_calls<'a>() -> [Call<'a>; 10] {
-    [
-        (&["choose", "F0"], 0, BLANK_LINES),
-        (&["choose", "updated"], 0, NEW_LINES),
-        (&["boot", "updated", "Y"], 0, "booted ota_0 80\nsteps 2\n"),
-        (&["choose", "Y"], 0, WAITING_LINES),
-        (&["boot", "Y", "Z"], 0, "booted factory 80\nsteps 2\n"),
-        (&["confirm", "Y", "W"], 0, "confirmed ota_0\nsteps 2\n"),
-        (&["confirm", "W", "V"], 0, "confirmed ota_0\nsteps 0\n"),
-        (&["reject", "F1", "R"], 0, "rejected ota_0\nsteps 2\n"),
-        (&["choose", "R"], 0, REJECTED_LINES),
-        (&["confirm", "tie", "C"], 0, "confirmed ota_0\nsteps 2\n"),
-    ]
-}
-
 /// The calls that are refused, or are no command, after those.
-fn refused_calls<'a>() -> [Call<'a>; 11] {
-    [
-        (&["confirm", "F0", "X"], 2, "refused: no ota app\n"),
-        (&["reject", "F0", "X"], 2, "refused: no ota app\n"),
-        (&["reject", "slot alone", "X"], 2, "refused: nothing else\n"),
-        (&["choose", "no factory"], 2, "refused: no application\n"),
-        (&["boot", "no factory", "X"], 2, "refused: no application\n"),
-        (&["boot", "none", "X"], 2, "refused: absent none\n"),
-        (&["boot", "A", "X"], 2, "refused: flash size 80\n"),
-        (&["confirm", "A", "X"], 2, "refused: flash size 80\n"),
-        (
-            &["reject", "no table", "X"],
-            2,
-            "refused: table magic row 0\n",
-        ),
-        (&["boot", "F0"], 1, USAGE),
-        (&["confirm", "F0", "X", "X"], 1, USAGE),
-    ]
-}
+const REFUSED: &str = "\
+$ confirm F0 X
+refused: no ota app
+status 2
+$ reject F0 X
+refused: no ota app
+status 2
+$ reject slot_alone X
+refused: nothing else
+status 2
+$ choose no_factory
+refused: no application
+status 2
+$ boot no_factory X
+refused: no application
+status 2
+$ boot none X
+refused: absent none
+status 2
+$ boot A X
+refused: flash size 80
+status 2
+$ confirm A X
+refused: flash size 80
+status 2
+$ reject no_table X
+refused: table magic row 0
+status 2
+$ boot F0
+usage: flash_cli choose|boot|confirm|reject|image-make|image-check|table-make|table-show|flash-make|update|sweep
+status 1
+$ confirm F0 X X
+usage: flash_cli choose|boot|confirm|reject|image-make|image-check|table-make|table-show|flash-make|update|sweep
+status 1
+";
 
 /// What a call left: the name of a flash, and the one that it was made of, with these bytes
 /// changed.
@@ -179,9 +208,9 @@ pub(crate) fn is_left(alloc: Global, store: &mut MemStore, left: &Left<'_>) -> R
 #[test]
 fn flashes_are_booted_confirmed_and_rejected(rt: HostRuntime) -> Result<(), Fail> {
     let alloc = rt.alloc();
-    let mut store = store_of_flashes(alloc)?;
+    let mut store = store_of_flashes(&rt, alloc)?;
     assert_eq!(rt;
-        first_other(alloc, &done_calls(), &mut store)?,
+        first_other(&rt, alloc, &mut store, DONE)?,
         None,
         "carried out"
     );
@@ -194,7 +223,7 @@ fn flashes_are_booted_confirmed_and_rejected(rt: HostRuntime) -> Result<(), Fail
         );
     }
     assert_eq!(rt;
-        first_other(alloc, &refused_calls(), &mut store)?,
+        first_other(&rt, alloc, &mut store, REFUSED)?,
         None,
         "refused"
     );

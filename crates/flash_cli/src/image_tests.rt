@@ -1,7 +1,8 @@
 //! Rows from outside of the commands on images: calls one after the other on one store.
 
 use crate::status::Status;
-use crate::tests::{BLANK_LINES, SOURCE, USAGE, called, write};
+use crate::tests::{SOURCE, called, write};
+use crate::transcript::first_other;
 use flash_text::Refusal;
 use pipe_ends::{GetFault, MemStore, PutFault, Store};
 use std::alloc::{AllocError, Global};
@@ -25,19 +26,6 @@ segment 0x400D0020 0x18000
 segment 0x40084000 0x1000
 ";
 
-/// The lines of its image.
-const USUAL_LINES: &str = "segment 0 0x3F400020 32768 data
-segment 1 0x3FFB0000 8192 memory
-segment 2 0x40080000 16384 memory
-segment 3 0x00000000 8160 memory
-segment 4 0x400D0020 98304 code
-segment 5 0x40084000 4096 memory
-length 168016
-digest yes
-version -
-project -
-";
-
 /// The plan of an image that is too large for a partition of 1 MiB by 16 bytes.
 const LARGE_PLAN: &[u8] = b"entry 1\nhash off\nsegment 0x3FFB0000 large.bin\n";
 
@@ -49,14 +37,6 @@ pub(crate) const IMAGE: [u8; 80] = [
     0xAC, 0x8D, 0x70, 0x32, 0x6E, 0xE8, 0xA1, 0xD1, 0x93, 0x08, 0x6C, 0x8B, 0x06, 0xC5, 0xEB, 0x67,
     0x2E, 0xE9, 0x1A, 0x20, 0xC3, 0xE4, 0xB3, 0xD6, 0x2D, 0xBD, 0x7D, 0xAC, 0x93, 0xA8, 0xA6, 0xEB,
 ];
-
-/// The lines of it.
-const IMAGE_LINES: &str = "segment 0 0x3F400020 4 data
-length 80
-digest yes
-version -
-project -
-";
 
 /// The source with the last partition behind the first 16 MiB.
 const HIGH_SOURCE: &[u8] = b"nvs, data, nvs, , 0x4000,
@@ -99,10 +79,10 @@ const ZEROS: [(&str, usize); 6] = [
 
 /// Names of files of the image with other bytes from a place on.
 const CHANGED: [(&str, usize, &[u8]); 4] = [
-    ("no segment", 1, &[0]),
-    ("17 segments", 1, &[17]),
-    ("other digest", 32, &[0, 3, 3, 4]),
-    ("other checksum", 35, &[5]),
+    ("no_segment", 1, &[0]),
+    ("17_segments", 1, &[17]),
+    ("other_digest", 32, &[0, 3, 3, 4]),
+    ("other_checksum", 35, &[5]),
 ];
 
 /// The image of the plan with other bytes from a place on.
@@ -135,152 +115,143 @@ pub(crate) fn store_of_all(alloc: Global) -> Result<MemStore, PutFault> {
     Ok(store)
 }
 
-/// A call: its words, the code of its status, and what it prints.
-type Call<'a> = (&'a [&'a str], u8, &'a str);
-
 /// The calls that are carried out, in order.
-fn done_calls<'a>() -> [Call<'a>; 16] {
-    [
-        (&["table-make", "t.csv", "T"], 0, "rows 6\n"),
-        (&["table-make", "bare.csv", "bare"], 0, "rows 1\n"),
-        (&["image-make", "a.plan", "A"], 0, "length 80\n"),
-        (&["image-make", "b.plan", "B"], 0, "length 80\n"),
-        (&["image-make", "plain.plan", "P"], 0, "length 48\n"),
-        (&["image-make", "usual.plan", "U"], 0, "length 168016\n"),
-        (&["image-make", "large.plan", "L"], 0, "length 1048592\n"),
-        (&["image-check", "A"], 0, IMAGE_LINES),
-        (&["image-check", "U"], 0, USUAL_LINES),
-        (
-            &["image-check", "P"],
-            0,
-            "segment 0 0x3F400020 4 data\nlength 48\ndigest no\nversion -\nproject -\n",
-        ),
-        (&["flash-make", "T", "A", "4194304", "F"], 0, "length 80\n"),
-        (
-            &["flash-make", "T", "P", "0x1000000", "G"],
-            0,
-            "length 48\n",
-        ),
-        (&["choose", "F"], 0, BLANK_LINES),
-        (&["table-make", "high.csv", "high"], 0, "rows 6\n"),
-        (&["flash-make", "T", "A", "33554432", "H"], 0, "length 80\n"),
-        (&["choose", "H"], 0, BLANK_LINES),
-    ]
-}
+const DONE: &str = "\
+$ table-make t.csv T
+rows 6
+$ table-make bare.csv bare
+rows 1
+$ image-make a.plan A
+length 80
+$ image-make b.plan B
+length 80
+$ image-make plain.plan P
+length 48
+$ image-make usual.plan U
+length 168016
+$ image-make large.plan L
+length 1048592
+$ image-check A
+segment 0 0x3F400020 4 data
+length 80
+digest yes
+version -
+project -
+$ image-check U
+segment 0 0x3F400020 32768 data
+segment 1 0x3FFB0000 8192 memory
+segment 2 0x40080000 16384 memory
+segment 3 0x00000000 8160 memory
+segment 4 0x400D0020 98304 code
+segment 5 0x40084000 4096 memory
+length 168016
+digest yes
+version -
+project -
+$ image-check P
+segment 0 0x3F400020 4 data
+length 48
+digest no
+version -
+project -
+$ flash-make T A 4194304 F
+length 80
+$ flash-make T P 0x1000000 G
+length 48
+$ choose F
+entry 0 seq 4294967295 state UNDEFINED invalid
+entry 1 seq 4294967295 state UNDEFINED invalid
+names factory
+boots factory 80
+$ table-make high.csv high
+rows 6
+$ flash-make T A 33554432 H
+length 80
+$ choose H
+entry 0 seq 4294967295 state UNDEFINED invalid
+entry 1 seq 4294967295 state UNDEFINED invalid
+names factory
+boots factory 80
+";
 
 /// The calls that are refused, or are no command, after those.
-fn refused_calls<'a>() -> [Call<'a>; 21] {
-    [
-        (&["image-make", "none", "X"], 2, "refused: absent none\n"),
-        (
-            &["image-make", "faulty.plan", "X"],
-            2,
-            "refused: plan line 3 number\n",
-        ),
-        (
-            &["image-make", "empty", "X"],
-            2,
-            "refused: plan line 0 noentry\n",
-        ),
-        (
-            &["image-make", "some.plan", "X"],
-            2,
-            "refused: absent no.bin\n",
-        ),
-        (
-            &["image-check", "no segment"],
-            2,
-            "refused: image segments 0\n",
-        ),
-        (
-            &["image-check", "17 segments"],
-            2,
-            "refused: image segments 17\n",
-        ),
-        (
-            &["image-check", "other digest"],
-            2,
-            "refused: image digest\n",
-        ),
-        (
-            &["image-check", "other checksum"],
-            2,
-            "refused: image checksum 0xEB 0xEA\n",
-        ),
-        (&["image-check", "short"], 2, "refused: image short 79 80\n"),
-        (
-            &["image-check", "long"],
-            2,
-            "refused: image trailing 81 80\n",
-        ),
-        (&["image-check", "empty"], 2, "refused: image short 0 24\n"),
-        (
-            &["flash-make", "T", "none", "3", "X"],
-            2,
-            "refused: absent none\n",
-        ),
-        (
-            &["flash-make", "A", "empty", "3", "X"],
-            2,
-            "refused: flash size 3\n",
-        ),
-        (
-            &["flash-make", "A", "empty", "4194304", "X"],
-            2,
-            "refused: table length 80\n",
-        ),
-        (
-            &["flash-make", "T", "A", "1048576", "X"],
-            2,
-            "refused: table range row 3\n",
-        ),
-        (
-            &["flash-make", "bare", "empty", "4194304", "X"],
-            2,
-            "refused: table no otadata\n",
-        ),
-        (
-            &["flash-make", "high", "empty", "33554432", "X"],
-            2,
-            "refused: table app high row 5\n",
-        ),
-        (
-            &["flash-make", "T", "L", "4194304", "X"],
-            2,
-            "refused: image too large 1048592 1048576\n",
-        ),
-        (&["flash-make", "T", "A", "4M", "X"], 1, USAGE),
-        (&["flash-make", "T", "A", "4194304"], 1, USAGE),
-        (&["image-check", "A", "--cut", "1"], 1, USAGE),
-    ]
-}
-
-/// Makes calls on a store, and tells the first that ends otherwise.
-pub(crate) fn first_other<'a>(
-    alloc: Global,
-    calls: &[Call<'a>],
-    store: &mut MemStore,
-) -> Result<Option<&'a str>, AllocError> {
-    for (words, code, text) in calls {
-        let (status, sink) = called(alloc, words, store)?;
-        if status.code() != *code || sink.bytes() != text.as_bytes() {
-            return Ok(Some(text));
-        }
-    }
-    Ok(None)
-}
+const REFUSED: &str = "\
+$ image-make none X
+refused: absent none
+status 2
+$ image-make faulty.plan X
+refused: plan line 3 number
+status 2
+$ image-make empty X
+refused: plan line 0 noentry
+status 2
+$ image-make some.plan X
+refused: absent no.bin
+status 2
+$ image-check no_segment
+refused: image segments 0
+status 2
+$ image-check 17_segments
+refused: image segments 17
+status 2
+$ image-check other_digest
+refused: image digest
+status 2
+$ image-check other_checksum
+refused: image checksum 0xEB 0xEA
+status 2
+$ image-check short
+refused: image short 79 80
+status 2
+$ image-check long
+refused: image trailing 81 80
+status 2
+$ image-check empty
+refused: image short 0 24
+status 2
+$ flash-make T none 3 X
+refused: absent none
+status 2
+$ flash-make A empty 3 X
+refused: flash size 3
+status 2
+$ flash-make A empty 4194304 X
+refused: table length 80
+status 2
+$ flash-make T A 1048576 X
+refused: table range row 3
+status 2
+$ flash-make bare empty 4194304 X
+refused: table no otadata
+status 2
+$ flash-make high empty 33554432 X
+refused: table app high row 5
+status 2
+$ flash-make T L 4194304 X
+refused: image too large 1048592 1048576
+status 2
+$ flash-make T A 4M X
+usage: flash_cli choose|boot|confirm|reject|image-make|image-check|table-make|table-show|flash-make|update|sweep
+status 1
+$ flash-make T A 4194304
+usage: flash_cli choose|boot|confirm|reject|image-make|image-check|table-make|table-show|flash-make|update|sweep
+status 1
+$ image-check A --cut 1
+usage: flash_cli choose|boot|confirm|reject|image-make|image-check|table-make|table-show|flash-make|update|sweep
+status 1
+";
 
 #[test]
 fn images_and_flashes_are_made_and_checked(rt: HostRuntime) -> Result<(), Fail> {
     let alloc = rt.alloc();
     let mut store = store_of_all(alloc)?;
     assert_eq!(rt;
-        first_other(alloc, &done_calls(), &mut store)?,
+        first_other(&rt, alloc, &mut store, DONE)?,
         None,
         "carried out"
     );
     assert_eq!(rt;
-        first_other(alloc, &refused_calls(), &mut store)?,
+        first_other(&rt, alloc, &mut store, REFUSED)?,
         None,
         "refused"
     );

@@ -1,10 +1,12 @@
 //! An update by an image of 200,000 bytes, and one whose power goes off in its last step.
 
-use crate::boot_tests::{Call, OTADATA, is_left, store_of_flashes};
-use crate::update_tests::first_other;
+use crate::boot_tests::{OTADATA, is_left, store_of_flashes};
+use crate::transcript::first_other;
 use pipe_ends::{MemStore, Store};
 use std::alloc::{AllocError, Global};
+use std::sync::Wait;
 use std::test::Fail;
+use std::thread::Threads;
 
 /// The plan of an image with one segment of data.
 const PLAN: &[u8] = b"entry 0x40080400\nsegment 0x3F400020 large\n";
@@ -22,8 +24,13 @@ const ENTRY: [u8; 32] = [
     0xFF, 0xFF, 0xFF, 0xFF, 0xFF, 0xFF, 0xFF, 0xFF, 0x02, 0x00, 0x00, 0x00, 0x9A, 0x98, 0x43, 0x47,
 ];
 
-/// The lines of the update: 49 sectors, 782 pages and the entry are 833 steps.
-const LINES: &str = "phase session
+/// An update of 49 sectors, 782 pages and the entry, so of 833 steps, and of four more behind the
+/// session; with power lost behind its end, and in its last step.
+const UPDATES: &str = "\
+$ image-make large.plan L
+length 200000
+$ update F0 L empty N
+phase session
 steps 833
 end done
 phase boot
@@ -33,10 +40,19 @@ phase confirm
 steps 2
 end done
 boots ota_0 200000
-";
-
-/// The lines of one that is cut in step 837, its last one.
-const CUT_LINES: &str = "phase session
+$ update F0 L empty X --cut 838
+phase session
+steps 833
+end done
+phase boot
+steps 2
+end done
+phase confirm
+steps 2
+end done
+boots ota_0 200000
+$ update F0 L empty X --cut 837 --tear 0xFFFF
+phase session
 steps 833
 end done
 phase boot
@@ -46,6 +62,7 @@ phase confirm
 steps 2
 end power step 837
 boots factory 80
+status 5
 ";
 
 /// So many bytes of a pattern with a period of 251.
@@ -58,8 +75,8 @@ fn patterned(alloc: Global, length: u32) -> Result<Vec<u8>, AllocError> {
 }
 
 /// A store of flashes with the plan and its part.
-fn store_of_large(alloc: Global) -> Result<MemStore, Fail> {
-    let mut store = store_of_flashes(alloc)?;
+fn store_of_large<R: Threads + Wait + Sync>(rt: &R, alloc: Global) -> Result<MemStore, Fail> {
+    let mut store = store_of_flashes(rt, alloc)?;
     store.put(alloc, "large.plan", PLAN)?;
     let part = patterned(alloc, PART)?;
     store.put(alloc, "large", &part)?;
@@ -69,25 +86,9 @@ fn store_of_large(alloc: Global) -> Result<MemStore, Fail> {
 #[test]
 fn a_large_image_is_updated_in_837_steps(rt: HostRuntime) -> Result<(), Fail> {
     let alloc = rt.alloc();
-    let mut store = store_of_large(alloc)?;
-    let calls: [Call<'_>; 4] = [
-        (&["image-make", "large.plan", "L"], 0, "length 200000\n"),
-        (&["update", "F0", "L", "empty", "N"], 0, LINES),
-        (
-            &["update", "F0", "L", "empty", "X", "--cut", "838"],
-            0,
-            LINES,
-        ),
-        (
-            &[
-                "update", "F0", "L", "empty", "X", "--cut", "837", "--tear", "0xFFFF",
-            ],
-            5,
-            CUT_LINES,
-        ),
-    ];
+    let mut store = store_of_large(&rt, alloc)?;
     assert_eq!(rt;
-        first_other(&rt, alloc, &calls, &mut store)?,
+        first_other(&rt, alloc, &mut store, UPDATES)?,
         None,
         "the calls"
     );

@@ -35,6 +35,8 @@ mod table_show;
 mod tests;
 mod text;
 mod top;
+#[cfg(test)]
+mod transcript;
 mod unbegun;
 #[cfg(test)]
 mod update_tests;

@@ -5,8 +5,8 @@ use crate::files::put_files;
 use crate::image_tests::IMAGE;
 use crate::status::Status;
 use crate::top::plain;
+use crate::transcript::first_other;
 use flash_text::Refusal;
-use partition_table::TableBad;
 use pipe_ends::{File, GetFault, MemSink, MemStore, Store};
 use std::alloc::{AllocError, Global};
 use std::test::Fail;
@@ -51,61 +51,95 @@ const SECOND: Numbers = (2, VALID, 0x55F63774);
 
 const THIRD: Numbers = (3, VALID, 0xED4A5011);
 
-/// No byte of the flash is changed.
-const UNCHANGED: (usize, u8) = (usize::MAX, 0);
-
 pub(crate) const USAGE: &str = "usage: flash_cli choose|boot|confirm|reject|image-make|image-check|\
     table-make|table-show|flash-make|update|sweep\n";
 
-pub(crate) const BLANK_LINES: &str = "entry 0 seq 4294967295 state UNDEFINED invalid
+/// Names of flashes of 4 MiB, each with its entries.
+const ENTRIES: [(&str, [Numbers; 2]); 7] = [
+    ("blank", [ERASED, ERASED]),
+    ("greater", [SECOND, THIRD]),
+    ("tie", [SECOND, SECOND]),
+    ("zero", [(0, VALID, 0xFFFF_FFFF), ERASED]),
+    (
+        "rejected",
+        [(3, INVALID, THIRD.2), (2, PENDING_VERIFY, SECOND.2)],
+    ),
+    ("given_up", [(1, NEW, FIRST.2), (2, ABORTED, SECOND.2)]),
+    ("unnamed", [(1, 0xABCD, FIRST.2), (2, VALID, FIRST.2)]),
+];
+
+/// Names of blank flashes, each with the place of a byte that is 0.
+const ZEROED: [(&str, usize); 3] = [("magic", 0x80A0), ("digest", 0x80D0), ("end", 0x80E0)];
+
+/// What each of them boots: the greater sequence is active, the first of a tie; no entry of sequence
+/// 0, or whose CRC doesn't match, is valid. Behind them words that are no command.
+const CHOICES: &str = "\
+$ choose blank
+entry 0 seq 4294967295 state UNDEFINED invalid
 entry 1 seq 4294967295 state UNDEFINED invalid
 names factory
 boots factory 80
+$ choose greater
+entry 0 seq 2 state VALID valid
+entry 1 seq 3 state VALID valid
+names ota_0
+boots ota_0 80
+$ choose tie
+entry 0 seq 2 state VALID valid
+entry 1 seq 2 state VALID valid
+names ota_1
+boots ota_1 80
+$ choose zero
+entry 0 seq 0 state VALID invalid
+entry 1 seq 4294967295 state UNDEFINED invalid
+names factory
+boots factory 80
+$ choose rejected
+entry 0 seq 3 state INVALID invalid
+entry 1 seq 2 state PENDING_VERIFY valid
+names ota_1
+boots factory 80
+$ choose given_up
+entry 0 seq 1 state NEW valid
+entry 1 seq 2 state ABORTED invalid
+names ota_0
+boots ota_0 80
+$ choose unnamed
+entry 0 seq 1 state 0000ABCD valid
+entry 1 seq 2 state VALID invalid
+names ota_0
+boots ota_0 80
+$ choose magic
+refused: table magic row 5
+status 2
+$ choose digest
+refused: table md5 row 6
+status 2
+$ choose end
+refused: table magic row 7
+status 2
+$ choose short
+refused: flash size 3
+status 2
+$ choose missing
+refused: absent missing
+status 2
+$ choose
+usage: flash_cli choose|boot|confirm|reject|image-make|image-check|table-make|table-show|flash-make|update|sweep
+status 1
+$ choose blank blank
+usage: flash_cli choose|boot|confirm|reject|image-make|image-check|table-make|table-show|flash-make|update|sweep
+status 1
+$ choose -blank
+usage: flash_cli choose|boot|confirm|reject|image-make|image-check|table-make|table-show|flash-make|update|sweep
+status 1
+$ chose blank
+usage: flash_cli choose|boot|confirm|reject|image-make|image-check|table-make|table-show|flash-make|update|sweep
+status 1
+$ choos blank
+usage: flash_cli choose|boot|confirm|reject|image-make|image-check|table-make|table-show|flash-make|update|sweep
+status 1
 ";
-
-/// A call of the program on a store with the one file F0, a flash of this size.
-#[derive(Clone, Copy)]
-struct Row<'a> {
-    why: &'a str,
-    words: &'a [&'a str],
-    size: usize,
-    entries: [Numbers; 2],
-    change: (usize, u8),
-    failing_gets: &'a [u64],
-    failing_pushes: &'a [u64],
-    status: Status,
-    text: &'a str,
-}
-
-/// The row of a flash of 4 MiB with these entries, whose ends don't fail.
-fn done<'a>(why: &'a str, entries: [Numbers; 2], text: &'a str) -> Row<'a> {
-    Row {
-        why,
-        words: &["choose", "F0"],
-        size: 0x400000,
-        entries,
-        change: UNCHANGED,
-        failing_gets: &[],
-        failing_pushes: &[],
-        status: Status::Done,
-        text,
-    }
-}
-
-/// The row of words on a blank flash.
-fn worded<'a>(words: &'a [&'a str], status: Status, text: &'a str) -> Row<'a> {
-    Row {
-        why: "words",
-        words,
-        size: 0x400000,
-        entries: [ERASED, ERASED],
-        change: UNCHANGED,
-        failing_gets: &[],
-        failing_pushes: &[],
-        status,
-        text,
-    }
-}
 
 /// Writes bytes at a place, as far as the flash has it.
 pub(crate) fn write(flash: &mut [u8], at: usize, bytes: &[u8]) {
@@ -114,9 +148,9 @@ pub(crate) fn write(flash: &mut [u8], at: usize, bytes: &[u8]) {
     }
 }
 
-/// The flash of a row.
-fn flash_of(alloc: Global, row: &Row<'_>) -> Result<Vec<u8>, AllocError> {
-    let mut flash = vec![in alloc; 0xFFu8; row.size]?;
+/// A flash of 4 MiB with these entries, and an application in each of its partitions for one.
+fn flash_of(alloc: Global, entries: [Numbers; 2]) -> Result<Vec<u8>, AllocError> {
+    let mut flash = vec![in alloc; 0xFFu8; 0x400000]?;
     for (i, (kind, subtype, offset, size)) in PARTITIONS.iter().enumerate() {
         let at = 0x8000 + 32 * i;
         write(&mut flash, at, &[0; 32]);
@@ -126,7 +160,7 @@ fn flash_of(alloc: Global, row: &Row<'_>) -> Result<Vec<u8>, AllocError> {
     }
     write(&mut flash, 0x80C0, &[0xEB, 0xEB]);
     write(&mut flash, 0x80D0, &DIGEST);
-    for (i, (seq, state, crc)) in row.entries.iter().enumerate() {
+    for (i, (seq, state, crc)) in entries.iter().enumerate() {
         let at = 0xD000 + 0x1000 * i;
         write(&mut flash, at, &seq.to_le_bytes());
         write(&mut flash, at + 24, &state.to_le_bytes());
@@ -137,7 +171,6 @@ fn flash_of(alloc: Global, row: &Row<'_>) -> Result<Vec<u8>, AllocError> {
             write(&mut flash, offset as usize, &IMAGE);
         }
     }
-    write(&mut flash, row.change.0, &[row.change.1]);
     Ok(flash)
 }
 
@@ -150,119 +183,60 @@ pub(crate) fn words_of(alloc: Global, words: &[&str]) -> Result<Vec<String>, All
     Ok(all)
 }
 
-/// The status of a row's call, and what it pushed.
-fn answer(alloc: Global, row: &Row<'_>) -> Result<(Status, MemSink), AllocError> {
-    let file = File {
-        name: String::from_str(alloc, "F0")?,
-        bytes: flash_of(alloc, row)?,
-    };
-    let mut files = Vec::new(alloc);
-    files.push(file)?;
-    let mut store = MemStore::new(files, Vec::from_slice(alloc, row.failing_gets)?);
-    let mut sink = MemSink::new(alloc, Vec::from_slice(alloc, row.failing_pushes)?);
-    let words = words_of(alloc, row.words)?;
-    let status = plain(alloc, &words, &mut store, &mut sink);
-    Ok((status, sink))
-}
-
-/// The rows.
-fn rows<'a>() -> [Row<'a>; 23] {
-    let magic = Status::Refused(Refusal::Table(TableBad::Magic { row: 5 }));
-    let digest = Status::Refused(Refusal::Table(TableBad::Md5 { row: 6 }));
-    let end = Status::Refused(Refusal::Table(TableBad::Magic { row: 7 }));
-    let absent = Status::Refused(Refusal::Absent { file: 0 });
-    let short = Status::Refused(Refusal::FlashSize { size: 3 });
-    [
-        done("blank OTA data", [ERASED, ERASED], BLANK_LINES),
-        done(
-            "the greater sequence is active",
-            [SECOND, THIRD],
-            "entry 0 seq 2 state VALID valid\nentry 1 seq 3 state VALID valid\n\
-             names ota_0\nboots ota_0 80\n",
-        ),
-        done(
-            "a tie",
-            [SECOND, SECOND],
-            "entry 0 seq 2 state VALID valid\nentry 1 seq 2 state VALID valid\n\
-             names ota_1\nboots ota_1 80\n",
-        ),
-        done(
-            "sequence 0, whose CRC matches",
-            [(0, VALID, 0xFFFF_FFFF), ERASED],
-            "entry 0 seq 0 state VALID invalid\n\
-             entry 1 seq 4294967295 state UNDEFINED invalid\nnames factory\nboots factory 80\n",
-        ),
-        done(
-            "a rejected entry, and one that waits",
-            [(3, INVALID, THIRD.2), (2, PENDING_VERIFY, SECOND.2)],
-            "entry 0 seq 3 state INVALID invalid\n\
-             entry 1 seq 2 state PENDING_VERIFY valid\nnames ota_1\nboots factory 80\n",
-        ),
-        done(
-            "a new entry, and one given up",
-            [(1, NEW, FIRST.2), (2, ABORTED, SECOND.2)],
-            "entry 0 seq 1 state NEW valid\nentry 1 seq 2 state ABORTED invalid\n\
-             names ota_0\nboots ota_0 80\n",
-        ),
-        done(
-            "a state without a name, and a CRC that doesn't match",
-            [(1, 0xABCD, FIRST.2), (2, VALID, FIRST.2)],
-            "entry 0 seq 1 state 0000ABCD valid\nentry 1 seq 2 state VALID invalid\n\
-             names ota_0\nboots ota_0 80\n",
-        ),
-        Row {
-            change: (0x80A0, 0x00),
-            status: magic,
-            ..worded(&["choose", "F0"], magic, "refused: table magic row 5\n")
-        },
-        Row {
-            change: (0x80D0, 0x00),
-            status: digest,
-            ..worded(&["choose", "F0"], digest, "refused: table md5 row 6\n")
-        },
-        Row {
-            change: (0x80E0, 0x00),
-            status: end,
-            ..worded(&["choose", "F0"], end, "refused: table magic row 7\n")
-        },
-        Row {
-            size: 3,
-            ..worded(&["choose", "F0"], short, "refused: flash size 3\n")
-        },
-        worded(&["choose", "missing"], absent, "refused: absent missing\n"),
-        worded(&[], Status::Usage, USAGE),
-        worded(&["choose"], Status::Usage, USAGE),
-        worded(&["choose", "F0", "F0"], Status::Usage, USAGE),
-        worded(&["choose", ""], Status::Usage, USAGE),
-        worded(&["choose", "-F0"], Status::Usage, USAGE),
-        worded(&["chose", "F0"], Status::Usage, USAGE),
-        worded(&["choos", "F0"], Status::Usage, USAGE),
-        Row {
-            failing_gets: &[1],
-            ..worded(&["choose", "F0"], Status::StoreFault, "")
-        },
-        Row {
-            failing_pushes: &[1],
-            ..worded(&["choose", "F0"], Status::SinkFault, "")
-        },
-        Row {
-            failing_gets: &[2],
-            ..done("a second get would fail", [ERASED, ERASED], BLANK_LINES)
-        },
-        Row {
-            failing_pushes: &[2],
-            ..done("a second push would fail", [ERASED, ERASED], BLANK_LINES)
-        },
-    ]
+/// A store of all these flashes, and of one of three bytes.
+fn store_of_choices(alloc: Global) -> Result<MemStore, Fail> {
+    let mut store = MemStore::new(Vec::new(alloc), Vec::new(alloc));
+    for (name, entries) in ENTRIES {
+        let flash = flash_of(alloc, entries)?;
+        store.put(alloc, name, &flash)?;
+    }
+    for (name, at) in ZEROED {
+        let mut flash = flash_of(alloc, [ERASED, ERASED])?;
+        write(&mut flash, at, &[0]);
+        store.put(alloc, name, &flash)?;
+    }
+    store.put(alloc, "short", &[0xFF; 3])?;
+    Ok(store)
 }
 
 #[test]
-fn each_row_has_its_status_and_its_text(rt: HostRuntime) -> Result<(), Fail> {
-    for row in rows() {
-        let (status, sink) = answer(rt.alloc(), &row)?;
-        let why = row.why;
-        assert_eq!(rt; status, row.status, "status: {why}");
-        assert_eq!(rt; sink.bytes(), row.text.as_bytes(), "text: {why}");
+fn each_flash_has_its_choice(rt: HostRuntime) -> Result<(), Fail> {
+    let alloc = rt.alloc();
+    let mut store = store_of_choices(alloc)?;
+    assert_eq!(rt;
+        first_other(&rt, alloc, &mut store, CHOICES)?,
+        None,
+        "the line"
+    );
+    for words in [&[][..], &["choose", ""]] {
+        let (status, sink) = called(alloc, words, &mut store)?;
+        assert_eq!(rt; status, Status::Usage, "no word, and an empty one");
+        assert_eq!(rt; sink.bytes(), USAGE.as_bytes(), "what it prints");
+    }
+    Ok(())
+}
+
+/// The code of the status of a choice whose calls of these numbers fail, and whether it printed.
+fn failed(alloc: Global, gets: u64, pushes: u64) -> Result<(u8, bool), AllocError> {
+    let file = File {
+        name: String::from_str(alloc, "blank")?,
+        bytes: flash_of(alloc, [ERASED, ERASED])?,
+    };
+    let mut store = MemStore::new(vec![in alloc; file]?, vec![in alloc; gets]?);
+    let mut sink = MemSink::new(alloc, vec![in alloc; pushes]?);
+    let words = words_of(alloc, &["choose", "blank"])?;
+    let status = plain(alloc, &words, &mut store, &mut sink);
+    Ok((status.code(), sink.bytes().len() != 0))
+}
+
+#[test]
+fn an_end_that_fails_is_told(rt: HostRuntime) -> Result<(), Fail> {
+    for (gets, pushes, wanted) in [(1, 9, (3, false)), (9, 1, (7, false)), (2, 2, (0, true))] {
+        assert_eq!(rt;
+            failed(rt.alloc(), gets, pushes)?,
+            wanted,
+            "{gets} {pushes}"
+        );
     }
     Ok(())
 }
@@ -283,21 +257,17 @@ fn each_status_has_its_code(rt: HostRuntime) {
     }
 }
 
-/// Whether the answer is the row's, or out of memory.
-fn is_row_or_memory(alloc: Global, row: &Row<'_>) -> bool {
-    match answer(alloc, row) {
-        Ok((status, _sink)) => status == row.status || status == Status::Memory,
+/// Whether a choice is carried out, or out of memory.
+fn is_done_or_memory(alloc: Global) -> bool {
+    match failed(alloc, 9, 9) {
+        Ok((code, _)) => code == 0 || code == Status::Memory.code(),
         Err(_) => true,
     }
 }
 
 #[test]
 fn a_refused_allocation_is_out_of_memory(rt: HostRuntime) {
-    for row in rows() {
-        let holds = is_row_or_memory(rt.alloc(), &row);
-        let why = row.why;
-        assert_eq!(rt; holds, true, "status: {why}");
-    }
+    assert!(rt; is_done_or_memory(rt.alloc()), "the status");
 }
 
 /// A file of this name with these bytes.
@@ -369,17 +339,6 @@ const LABELLED_DIGEST: [u8; 16] = [
     0xBF, 0x25, 0x82, 0x2C, 0x0F, 0xA6, 0xD8, 0x64, 0x1B, 0xD9, 0x30, 0x25, 0x1E, 0x06, 0xB4, 0xC4,
 ];
 
-/// A store with one file.
-fn store_of(alloc: Global, name: &str, bytes: &[u8]) -> Result<MemStore, AllocError> {
-    let file = File {
-        name: String::from_str(alloc, name)?,
-        bytes: Vec::from_slice(alloc, bytes)?,
-    };
-    let mut files = Vec::new(alloc);
-    files.push(file)?;
-    Ok(MemStore::new(files, Vec::new(alloc)))
-}
-
 /// The status of a call with these words on a store, and what it pushed.
 pub(crate) fn called(
     alloc: Global,
@@ -395,7 +354,8 @@ pub(crate) fn called(
 #[test]
 fn a_table_is_made_of_its_source_and_shown(rt: HostRuntime) -> Result<(), Fail> {
     let alloc = rt.alloc();
-    let mut store = store_of(alloc, "t.csv", SOURCE.as_bytes())?;
+    let mut store = MemStore::new(Vec::new(alloc), Vec::new(alloc));
+    store.put(alloc, "t.csv", SOURCE.as_bytes())?;
     let (status, sink) = called(alloc, &["table-make", "t.csv", "T"], &mut store)?;
     assert_eq!(rt; status, Status::Done, "table-make");
     assert_eq!(rt; sink.bytes(), b"rows 6\n".as_slice(), "what it prints");
@@ -419,60 +379,56 @@ fn a_table_is_made_of_its_source_and_shown(rt: HostRuntime) -> Result<(), Fail> 
     Ok(())
 }
 
-/// A refused call on a store with the one file F.
-#[derive(Clone, Copy)]
-struct RefusedCall<'a> {
-    words: &'a [&'a str],
-    file: &'a [u8],
-    text: &'a str,
-}
+/// Names of files that are no table or no source.
+const FAULTY: [(&str, &[u8]); 5] = [
+    ("hundred", &[0xFF; 100]),
+    ("erased", &[0xFF; 3072]),
+    ("zeros", &[0; 3072]),
+    (
+        "overlap.csv",
+        b"a, data, nvs, 0x9000, 0x2000,\nb, data, nvs, 0xA000, 0x1000,",
+    ),
+    ("bare.csv", b"a, app, , , 1M,"),
+];
 
-/// The refused calls.
-fn refused_calls<'a>() -> [RefusedCall<'a>; 6] {
-    [
-        RefusedCall {
-            words: &["table-show", "F"],
-            file: &[0xFF; 100],
-            text: "refused: table length 100\n",
-        },
-        RefusedCall {
-            words: &["table-show", "F"],
-            file: &[0xFF; 3072],
-            text: "refused: table md5 row 0\n",
-        },
-        RefusedCall {
-            words: &["table-show", "F"],
-            file: &[0; 3072],
-            text: "refused: table magic row 0\n",
-        },
-        RefusedCall {
-            words: &["table-show", "G"],
-            file: &[0; 3072],
-            text: "refused: absent G\n",
-        },
-        RefusedCall {
-            words: &["table-make", "F", "T"],
-            file: b"a, data, nvs, 0x9000, 0x2000,\nb, data, nvs, 0xA000, 0x1000,",
-            text: "refused: table overlap rows 0 1\n",
-        },
-        RefusedCall {
-            words: &["table-make", "F", "T"],
-            file: b"a, app, , , 1M,",
-            text: "refused: csv record 1 subtype\n",
-        },
-    ]
-}
+/// How they are refused.
+const REFUSED: &str = "\
+$ table-show hundred
+refused: table length 100
+status 2
+$ table-show erased
+refused: table md5 row 0
+status 2
+$ table-show zeros
+refused: table magic row 0
+status 2
+$ table-show none
+refused: absent none
+status 2
+$ table-make overlap.csv T
+refused: table overlap rows 0 1
+status 2
+$ table-make bare.csv T
+refused: csv record 1 subtype
+status 2
+";
 
 #[test]
 fn tables_and_sources_are_refused_by_name(rt: HostRuntime) -> Result<(), Fail> {
-    for row in refused_calls() {
-        let text = row.text;
-        let mut store = store_of(rt.alloc(), "F", row.file)?;
-        let (status, sink) = called(rt.alloc(), row.words, &mut store)?;
-        assert_eq!(rt; status.code(), 2, "the status: {text}");
-        assert_eq!(rt; sink.bytes(), text.as_bytes(), "the text: {text}");
-        let put = store.get(rt.alloc(), "T");
-        assert_eq!(rt; put, Err(GetFault::Absent), "nothing is put: {text}");
+    let alloc = rt.alloc();
+    let mut store = MemStore::new(Vec::new(alloc), Vec::new(alloc));
+    for (name, bytes) in FAULTY {
+        store.put(alloc, name, bytes)?;
     }
+    assert_eq!(rt;
+        first_other(&rt, alloc, &mut store, REFUSED)?,
+        None,
+        "the line"
+    );
+    assert_eq!(rt;
+        store.get(alloc, "T"),
+        Err(GetFault::Absent),
+        "nothing is put"
+    );
     Ok(())
 }

@@ -1,61 +1,17 @@
 //! Rows from outside of `update`: calls on one store, with both cores at work.
 
-use crate::boot_tests::{Call, OTADATA, STATE, is_left, put_changed, store_of_flashes};
+use crate::boot_tests::{OTADATA, STATE, is_left, put_changed, store_of_flashes};
 use crate::image_tests::IMAGE;
 use crate::serve::serve;
-use crate::tests::{USAGE, words_of};
-use flash_ops::{NoPace, Pace, Point};
+use crate::tests::words_of;
+use crate::transcript::first_other;
+use flash_ops::{Pace, Point};
 use pipe_ends::{GetFault, MemSink, MemStore, Store};
-use std::alloc::{AllocError, Global};
+use std::alloc::Global;
 use std::sync::Wait;
 use std::sync::atomic::{AtomicBool, AtomicU64, Ordering};
 use std::test::Fail;
 use std::thread::Threads;
-
-/// The lines of an update of an image of one sector and one page.
-const SMALL: &str = "phase session
-steps 4
-end done
-phase boot
-steps 2
-end done
-phase confirm
-steps 2
-end done
-boots ota_0 80
-";
-
-/// The lines of an update of the usual image, and of one of 1 MiB.
-const USUAL: &str = "phase session
-steps 701
-end done
-phase boot
-steps 2
-end done
-phase confirm
-steps 2
-end done
-boots ota_0 168016
-";
-
-const WHOLE_SLOT: &str = "phase session
-steps 4354
-end done
-phase boot
-steps 2
-end done
-phase confirm
-steps 2
-end done
-boots ota_0 1048576
-";
-
-/// The lines of an update that ends behind its session.
-const SESSION: &str = "phase session
-steps 4
-end done
-boots ota_0 80
-";
 
 /// A script of each kind of action, and its lines.
 const ACTIONS: &[u8] = b"fetch 0x3F400020 4
@@ -65,19 +21,6 @@ map code 1 1
 fetch 0x400D0020 4
 mask 3
 fetch 0x400D0020 4
-";
-
-const ACTION_LINES: &str = "phase session
-worker 1 fetch 0x3F400020 mask 3 irq 0x00000001 01020304
-worker 2 set mask 1 irq 0x00000001
-worker 3 fetch 0x3F400020 mask 1 irq 0x00000001 01020304
-worker 4 mapped 0x400D0000
-worker 5 refused masked
-worker 6 set mask 3 irq 0x00000001
-worker 7 fetch 0x400D0020 mask 3 irq 0x00000001 01020304
-steps 4
-end done
-boots ota_0 80
 ";
 
 /// A script of writes that are refused and of one that is not, of its erase and of pages, and its
@@ -94,24 +37,6 @@ map data 0 64
 irq 0x80000000
 map data 1 1
 unmap 0x3F410000
-";
-
-const WRITE_LINES: &str = "phase session
-worker 1 refused dangerous
-worker 2 refused dangerous
-worker 3 refused nolabel
-worker 4 refused range
-worker 5 refused unaligned
-worker 6 done
-worker 7 refused unmapped
-worker 8 refused notmapped
-worker 9 refused nopages
-worker 10 set mask 3 irq 0x80000000
-worker 11 mapped 0x3F410000
-worker 12 unmapped 0x3F410000
-steps 5
-end done
-boots ota_0 80
 ";
 
 /// The sources of tables with partitions that may not be written, and with one slot alone.
@@ -132,202 +57,234 @@ factory, app, factory, , 1M,
 ota_0, app, ota_0, , 1M,
 ";
 
-const GUARDED_LINES: &str = "phase session
+/// The calls that are carried out, in order.
+const DONE: &str = "\
+$ image-make usual.plan U
+length 168016
+$ update F0 B empty N
+phase session
+steps 4
+end done
+phase boot
+steps 2
+end done
+phase confirm
+steps 2
+end done
+boots ota_0 80
+$ update F0 U empty X
+phase session
+steps 701
+end done
+phase boot
+steps 2
+end done
+phase confirm
+steps 2
+end done
+boots ota_0 168016
+$ update F0 B empty M --upto session
+phase session
+steps 4
+end done
+boots ota_0 80
+$ update F0 B actions X --upto session
+phase session
+worker 1 fetch 0x3F400020 mask 3 irq 0x00000001 01020304
+worker 2 set mask 1 irq 0x00000001
+worker 3 fetch 0x3F400020 mask 1 irq 0x00000001 01020304
+worker 4 mapped 0x400D0000
+worker 5 refused masked
+worker 6 set mask 3 irq 0x00000001
+worker 7 fetch 0x400D0020 mask 3 irq 0x00000001 01020304
+steps 4
+end done
+boots ota_0 80
+$ update F0 B writes W --driver 1 --upto session
+phase session
+worker 1 refused dangerous
+worker 2 refused dangerous
+worker 3 refused nolabel
+worker 4 refused range
+worker 5 refused unaligned
+worker 6 done
+worker 7 refused unmapped
+worker 8 refused notmapped
+worker 9 refused nopages
+worker 10 set mask 3 irq 0x80000000
+worker 11 mapped 0x3F410000
+worker 12 unmapped 0x3F410000
+steps 5
+end done
+boots ota_0 80
+$ update F0 B empty X --cut 9
+phase session
+steps 4
+end done
+phase boot
+steps 2
+end done
+phase confirm
+steps 2
+end done
+boots ota_0 80
+";
+
+/// Calls of which a step breaks off, or whose image is none.
+const BROKEN: &str = "\
+$ update rejected A empty C --cut 3 --tear 0x1C001800FF
+phase session
+steps 3
+end power step 3
+boots ota_1 80
+status 5
+$ update F0 B empty D --cut 8 --tear 0x1900180001
+phase session
+steps 4
+end done
+phase boot
+steps 2
+end done
+phase confirm
+steps 2
+end power step 8
+boots factory 80
+status 5
+$ update F0 B empty X --fail 1
+phase session
+steps 1
+end device step 1
+boots factory 80
+status 4
+$ update F0 B empty X --fail 4 --tear 0xFFFF
+phase session
+steps 4
+end device step 4
+boots factory 80
+status 4
+$ update F0 B empty X --fail 4
+phase session
+steps 4
+end device step 4
+boots ota_0 80
+status 4
+$ update F0 B empty X --cut 1 --tear 0
+phase session
+steps 1
+end power step 1
+boots factory 80
+status 5
+$ update F0 empty empty E
+phase session
+steps 0
+end refused empty
+boots factory 80
+status 2
+$ update F0 zeros empty X
+phase session
+steps 1
+end refused first byte 0x00
+boots factory 80
+status 2
+$ update F0 long empty X
+phase session
+steps 2
+end refused image trailing 81 80
+boots factory 80
+status 2
+";
+
+/// Calls on other flashes: with partitions that may not be written, with one slot alone, and with an
+/// application whose code is mapped.
+const TABLES: &str = "\
+$ table-make guarded.csv G
+rows 8
+$ flash-make G A 4194304 GF
+length 80
+$ update GF B guarded X --upto session
+phase session
 worker 1 refused readonly
 worker 2 refused encrypted
 steps 4
 end done
 boots ota_0 80
-";
-
-/// The lines of a script that fetches from the code of its application.
-const CODE_LINES: &str = "phase session
+$ table-make single.csv O
+rows 5
+$ flash-make O A 4194304 OF
+length 80
+$ update OF B empty O1
+phase session
+steps 4
+end done
+phase boot
+steps 2
+end done
+phase confirm
+steps 2
+end done
+boots ota_0 80
+$ update O1 A empty none
+refused: conflict ota_0
+status 2
+$ image-make code.plan K
+length 80
+$ flash-make T K 4194304 KF
+length 80
+$ update KF B code X --upto session
+phase session
 worker 1 fetch 0x400D0020 mask 3 irq 0x00000001 01020304
 steps 4
 end done
 boots ota_0 80
 ";
 
-/// The calls that are carried out, in order.
-fn done_calls<'a>() -> [Call<'a>; 7] {
-    [
-        (&["image-make", "usual.plan", "U"], 0, "length 168016\n"),
-        (&["update", "F0", "B", "empty", "N"], 0, SMALL),
-        (&["update", "F0", "U", "empty", "X"], 0, USUAL),
-        (
-            &["update", "F0", "B", "empty", "M", "--upto", "session"],
-            0,
-            SESSION,
-        ),
-        (
-            &["update", "F0", "B", "actions", "X", "--upto", "session"],
-            0,
-            ACTION_LINES,
-        ),
-        (
-            &[
-                "update", "F0", "B", "writes", "W", "--driver", "1", "--upto", "session",
-            ],
-            0,
-            WRITE_LINES,
-        ),
-        (&["update", "F0", "B", "empty", "X", "--cut", "9"], 0, SMALL),
-    ]
-}
-
 /// The calls that are refused, or are no command, after those.
-fn refused_calls<'a>() -> [Call<'a>; 9] {
-    [
-        (
-            &["update", "waits", "B", "empty", "none"],
-            2,
-            "refused: not settled entry 0 state PENDING_VERIFY\n",
-        ),
-        (
-            &["update", "spent", "B", "empty", "none"],
-            2,
-            "refused: seq spent 4294967294\n",
-        ),
-        (
-            &["update", "F0", "F0", "empty", "none"],
-            2,
-            "refused: too large 4194304 1048576\n",
-        ),
-        (
-            &["update", "none", "B", "a.plan", "none"],
-            2,
-            "refused: absent none\n",
-        ),
-        (
-            &["update", "A", "B", "a.plan", "none"],
-            2,
-            "refused: script line 1 word\n",
-        ),
-        (
-            &["update", "A", "B", "empty", "none"],
-            2,
-            "refused: flash size 80\n",
-        ),
-        (&["update", "F0", "B", "empty"], 1, USAGE),
-        (
-            &["update", "F0", "B", "empty", "none", "--cut", "0"],
-            1,
-            USAGE,
-        ),
-        (
-            &[
-                "update", "F0", "B", "empty", "none", "--cut", "1", "--fail", "1",
-            ],
-            1,
-            USAGE,
-        ),
-    ]
-}
+const REFUSED: &str = "\
+$ update waits B empty none
+refused: not settled entry 0 state PENDING_VERIFY
+status 2
+$ update spent B empty none
+refused: seq spent 4294967294
+status 2
+$ update F0 F0 empty none
+refused: too large 4194304 1048576
+status 2
+$ update none B a.plan none
+refused: absent none
+status 2
+$ update A B a.plan none
+refused: script line 1 word
+status 2
+$ update A B empty none
+refused: flash size 80
+status 2
+$ update F0 B empty
+usage: flash_cli choose|boot|confirm|reject|image-make|image-check|table-make|table-show|flash-make|update|sweep
+status 1
+$ update F0 B empty none --cut 0
+usage: flash_cli choose|boot|confirm|reject|image-make|image-check|table-make|table-show|flash-make|update|sweep
+status 1
+$ update F0 B empty none --cut 1 --fail 1
+usage: flash_cli choose|boot|confirm|reject|image-make|image-check|table-make|table-show|flash-make|update|sweep
+status 1
+";
 
-/// The calls on other flashes: with partitions that may not be written, with one slot alone, and with
-/// an application whose code is mapped.
-fn table_calls<'a>() -> [Call<'a>; 10] {
-    [
-        (&["table-make", "guarded.csv", "G"], 0, "rows 8\n"),
-        (&["flash-make", "G", "A", "4194304", "GF"], 0, "length 80\n"),
-        (
-            &["update", "GF", "B", "guarded", "X", "--upto", "session"],
-            0,
-            GUARDED_LINES,
-        ),
-        (&["table-make", "single.csv", "O"], 0, "rows 5\n"),
-        (&["flash-make", "O", "A", "4194304", "OF"], 0, "length 80\n"),
-        (&["update", "OF", "B", "empty", "O1"], 0, SMALL),
-        (
-            &["update", "O1", "A", "empty", "none"],
-            2,
-            "refused: conflict ota_0\n",
-        ),
-        (&["image-make", "code.plan", "K"], 0, "length 80\n"),
-        (&["flash-make", "T", "K", "4194304", "KF"], 0, "length 80\n"),
-        (
-            &["update", "KF", "B", "code", "X", "--upto", "session"],
-            0,
-            CODE_LINES,
-        ),
-    ]
-}
-
-/// The calls of which a step breaks off, or whose image is none.
-fn broken_calls<'a>() -> [Call<'a>; 9] {
-    [
-        (
-            &[
-                "update",
-                "rejected",
-                "A",
-                "empty",
-                "C",
-                "--cut",
-                "3",
-                "--tear",
-                "0x1C001800FF",
-            ],
-            5,
-            "phase session\nsteps 3\nend power step 3\nboots ota_1 80\n",
-        ),
-        (
-            &[
-                "update",
-                "F0",
-                "B",
-                "empty",
-                "D",
-                "--cut",
-                "8",
-                "--tear",
-                "0x1900180001",
-            ],
-            5,
-            "phase session\nsteps 4\nend done\nphase boot\nsteps 2\nend done\nphase confirm\n\
-            steps 2\nend power step 8\nboots factory 80\n",
-        ),
-        (
-            &["update", "F0", "B", "empty", "X", "--fail", "1"],
-            4,
-            "phase session\nsteps 1\nend device step 1\nboots factory 80\n",
-        ),
-        (
-            &[
-                "update", "F0", "B", "empty", "X", "--fail", "4", "--tear", "0xFFFF",
-            ],
-            4,
-            "phase session\nsteps 4\nend device step 4\nboots factory 80\n",
-        ),
-        (
-            &["update", "F0", "B", "empty", "X", "--fail", "4"],
-            4,
-            "phase session\nsteps 4\nend device step 4\nboots ota_0 80\n",
-        ),
-        (
-            &[
-                "update", "F0", "B", "empty", "X", "--cut", "1", "--tear", "0",
-            ],
-            5,
-            "phase session\nsteps 1\nend power step 1\nboots factory 80\n",
-        ),
-        (
-            &["update", "F0", "empty", "empty", "E"],
-            2,
-            "phase session\nsteps 0\nend refused empty\nboots factory 80\n",
-        ),
-        (
-            &["update", "F0", "zeros", "empty", "X"],
-            2,
-            "phase session\nsteps 1\nend refused first byte 0x00\nboots factory 80\n",
-        ),
-        (
-            &["update", "F0", "long", "empty", "X"],
-            2,
-            "phase session\nsteps 2\nend refused image trailing 81 80\nboots factory 80\n",
-        ),
-    ]
-}
+/// An update by an image as large as its slot.
+const WHOLE_SLOT: &str = "\
+$ image-make slot.plan S
+length 1048576
+$ update F0 S empty X
+phase session
+steps 4354
+end done
+phase boot
+steps 2
+end done
+phase confirm
+steps 2
+end done
+boots ota_0 1048576
+";
 
 /// What a call left: the name of a flash, and the one that it was made of, with these bytes
 /// changed.
@@ -350,8 +307,11 @@ fn left_flashes<'a>() -> [Left<'a>; 6] {
 }
 
 /// A store with flashes, images and scripts.
-pub(crate) fn store_of_updates(alloc: Global) -> Result<MemStore, Fail> {
-    let mut store = store_of_flashes(alloc)?;
+pub(crate) fn store_of_updates<R: Threads + Wait + Sync>(
+    rt: &R,
+    alloc: Global,
+) -> Result<MemStore, Fail> {
+    let mut store = store_of_flashes(rt, alloc)?;
     store.put(alloc, "actions", ACTIONS)?;
     store.put(alloc, "writes", WRITES)?;
     store.put(alloc, "guarded", b"write cfg 0 00\nwrite key 0 00\n")?;
@@ -404,42 +364,19 @@ pub(crate) fn store_of_updates(alloc: Global) -> Result<MemStore, Fail> {
     Ok(store)
 }
 
-/// Makes calls on a store, and tells the first that ends otherwise.
-pub(crate) fn first_other<'a, R: Threads + Wait + Sync>(
-    rt: &R,
-    alloc: Global,
-    calls: &[Call<'a>],
-    store: &mut MemStore,
-) -> Result<Option<&'a str>, AllocError> {
-    for (words, code, text) in calls {
-        let words = words_of(alloc, words)?;
-        let mut sink = MemSink::new(alloc, Vec::new(alloc));
-        let served = serve(rt, alloc, &words, store, &mut sink, &NoPace);
-        if served.status.code() != *code || sink.bytes() != text.as_bytes() {
-            return Ok(Some(text));
-        }
-    }
-    Ok(None)
-}
-
 #[test]
 fn flashes_are_updated_with_both_cores(rt: HostRuntime) -> Result<(), Fail> {
     let alloc = rt.alloc();
-    let mut store = store_of_updates(alloc)?;
+    let mut store = store_of_updates(&rt, alloc)?;
     assert_eq!(rt;
-        first_other(&rt, alloc, &done_calls(), &mut store)?,
+        first_other(&rt, alloc, &mut store, DONE)?,
         None,
         "carried out"
     );
     assert_eq!(rt;
-        first_other(&rt, alloc, &broken_calls(), &mut store)?,
+        first_other(&rt, alloc, &mut store, BROKEN)?,
         None,
         "broken off"
-    );
-    assert_eq!(rt;
-        first_other(&rt, alloc, &table_calls(), &mut store)?,
-        None,
-        "other tables"
     );
     for left in left_flashes() {
         let name = left.0;
@@ -449,8 +386,20 @@ fn flashes_are_updated_with_both_cores(rt: HostRuntime) -> Result<(), Fail> {
             "the flash {name}"
         );
     }
+    Ok(())
+}
+
+#[test]
+fn other_tables_are_updated_and_what_may_not_begin_is_refused(rt: HostRuntime) -> Result<(), Fail> {
+    let alloc = rt.alloc();
+    let mut store = store_of_updates(&rt, alloc)?;
     assert_eq!(rt;
-        first_other(&rt, alloc, &refused_calls(), &mut store)?,
+        first_other(&rt, alloc, &mut store, TABLES)?,
+        None,
+        "other tables"
+    );
+    assert_eq!(rt;
+        first_other(&rt, alloc, &mut store, REFUSED)?,
         None,
         "refused"
     );
@@ -465,13 +414,9 @@ fn flashes_are_updated_with_both_cores(rt: HostRuntime) -> Result<(), Fail> {
 #[test]
 fn a_whole_slot_is_updated(rt: HostRuntime) -> Result<(), Fail> {
     let alloc = rt.alloc();
-    let mut store = store_of_updates(alloc)?;
-    let calls: [Call<'_>; 2] = [
-        (&["image-make", "slot.plan", "S"], 0, "length 1048576\n"),
-        (&["update", "F0", "S", "empty", "X"], 0, WHOLE_SLOT),
-    ];
+    let mut store = store_of_updates(&rt, alloc)?;
     assert_eq!(rt;
-        first_other(&rt, alloc, &calls, &mut store)?,
+        first_other(&rt, alloc, &mut store, WHOLE_SLOT)?,
         None,
         "an image of 1 MiB"
     );
@@ -512,7 +457,7 @@ fn meet(own: &AtomicU64, other: &AtomicU64, missed: &AtomicBool) {
 #[test]
 fn both_cores_meet_in_each_leg(rt: HostRuntime) -> Result<(), Fail> {
     let alloc = rt.alloc();
-    let mut store = store_of_updates(alloc)?;
+    let mut store = store_of_updates(&rt, alloc)?;
     let words = words_of(alloc, &["update", "F0", "B", "fetches", "X"])?;
     let mut sink = MemSink::new(alloc, Vec::new(alloc));
     let meeting = Meeting {
