@@ -1,16 +1,15 @@
 -- Levels over boots and confirmations.
-use Rattle.std.proofs.Common.{◌≡◌, ◌≢◌, ◌⊎◌, inl, inr, ℕ, ◌≤◌, ◌<◌, max, List, [], ◌∷◌, Option, Some, None, Ok, Err, refl, sym, ap, ◌∙◌, subst, arith}
+use Rattle.std.proofs.Common.{◌≡◌, ◌≢◌, inl, inr, ℕ, ◌≤◌, ◌<◌, max, List, [], ◌∷◌, Option, Some, None, Ok, Err, refl, sym, ap, ◌∙◌, subst, arith}
 use Rattle.std.specs.Prelude.{◌↔◌}
 use Rattle.std.specs.Int.{bit_at}
 use Rattle.std.proofs.lemmas.Bool.{cases_lt}
-use Rattle.crash_images.specs.Crash.{LeftAfter}
 use Rattle.partition_table.specs.declared.app.App.{App}
 use Rattle.partition_table.specs.Layout.{IsPlaced, Places}
 use Rattle.otadata.specs.declared.entry.Entry.{Entry}
 use Rattle.boot_select.specs.Boots.{entries_in, images_in}
 use Rattle.boot_select.proofs.StartLemmas.{images_are_placed}
 use Rattle.rollback.specs.Boot.{boot_writes}
-use Rattle.rollback.specs.Boots.{boots, boots_in}
+use Rattle.rollback.specs.Boots.{boots_in}
 use Rattle.rollback.proofs.PairLemmas.{boots_holds, some_boots}
 use Rattle.image_verify.specs.Held.{held}
 use Rattle.secure_fuse.specs.Bits.{level_of, Keeps}

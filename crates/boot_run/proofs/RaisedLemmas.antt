@@ -1,6 +1,5 @@
 -- A confirmation under anti-rollback: which application it is of, and what it leaves.
-use Rattle.std.proofs.Common.{◌==◌, ◌≡◌, ◌≢◌, ◌⊎◌, inl, inr, ℕ, zero, suc, ◌≤◌, ◌<◌, max, Bool, true, false, nat_le, nat_lt, List, [], ◌∷◌, length, Option, Some, None, IsSome, IfSome, Result, Ok, Err, IfOk, OnOk, OnErr, refl, sym, ap, ◌∙◌, subst, arith, if◌then◌else◌}
-use Rattle.std.proofs.lemmas.Bool.{cases_Bool}
+use Rattle.std.proofs.Common.{◌==◌, ◌≡◌, ◌≢◌, inl, inr, ℕ, zero, suc, ◌≤◌, Bool, true, false, nat_lt, List, length, Option, Some, None, IsSome, IfSome, Result, Ok, Err, IfOk, OnOk, refl, sym, ap, ◌∙◌, subst, arith, if◌then◌else◌}
 use Rattle.std.proofs.lemmas.Bool.Decides.{nat_tests}
 use Rattle.std.proofs.lemmas.Result.{IfOk-weaker}
 use Rattle.nor_device.specs.declared.nor.NorFault.{NorFault}
@@ -8,13 +7,13 @@ use Rattle.nor_device.specs.declared.nor.StepEnd.{StepEnd}
 use Rattle.nor_device.specs.declared.step.Step.{Step}
 use Rattle.nor_device.specs.Flash.{after_steps}
 use Rattle.crash_images.specs.Crash.{IsLeftOf, LeftAfter}
-use Rattle.crash_images.proofs.LeftLaws.{left_begin, left_end}
+use Rattle.crash_images.proofs.LeftLaws.{left_end}
 use Rattle.otadata.specs.declared.entry.Entry.{Entry}
 use Rattle.otadata.specs.Choice.{active_of}
 use Rattle.otadata.specs.Entry.{IsStored}
 use Rattle.partition_table.specs.declared.app.App.{App}
 use Rattle.partition_table.specs.declared.app.App.TheVariants.{Ota, Factory, Test}
-use Rattle.partition_table.specs.Layout.{IsPlaced, Places, row_for}
+use Rattle.partition_table.specs.Layout.{IsPlaced, Places}
 use Rattle.boot_select.specs.Choice.{named_by, named_of}
 use Rattle.boot_select.specs.Settled.{sectors}
 use Rattle.boot_select.specs.Boots.{entries_in, images_in, names}
@@ -28,7 +27,7 @@ use Rattle.rollback.proofs.PairLemmas.{some_boots}
 use Rattle.image_verify.specs.declared.info.ImageInfo.{ImageInfo}
 use Rattle.image_verify.specs.Held.{held}
 use Rattle.secure_fuse.specs.declared.fuses.FuseNo.{FuseNo}
-use Rattle.secure_fuse.specs.Bits.{level_of, raised, IsStage}
+use Rattle.secure_fuse.specs.Bits.{level_of}
 use Rattle.secure_fuse.specs.Fuses.{LeavesOnly}
 use Rattle.secure_fuse.specs.Secure.{secure_in, secure_of}
 use Rattle.boot_run.specs.declared.told.Told.{Told}
@@ -38,10 +37,10 @@ use Rattle.boot_run.specs.Made.{AreMadeBy}
 use Rattle.boot_run.specs.Read.{OfEntries}
 use Rattle.boot_run.specs.Rewriting.{AreShort, rewrites}
 use Rattle.boot_run.specs.Verified.{IsImage}
-use Rattle.boot_run.specs.Above.{StillBootsAbove, held_above, no_older}
+use Rattle.boot_run.specs.Above.{StillBootsAbove, held_above}
 use Rattle.boot_run.specs.Crashed.{IsLeftByVerdicts, LeavesVerdicts, StillBoots}
 use Rattle.boot_run.specs.Verdict.{Answers, Tells, confirmation, one_of, writes_of}
-use Rattle.boot_run.specs.Raised.{AreStored, BootsAbove, BootsRaised, Burns, Confirms, IsBurnt, IsLeftRaised, IsRaising, LeavesRaised, OfVersions, raising, raising_in, raising_steps, version_at, version_by, version_fit, version_held, version_of, version_told, versions_in, writes_for}
+use Rattle.boot_run.specs.Raised.{AreStored, BootsAbove, BootsRaised, Burns, Confirms, IsLeftRaised, LeavesRaised, OfVersions, raising, raising_in, raising_steps, version_at, version_by, version_fit, version_held, version_of, version_told, versions_in, writes_for}
 use Rattle.boot_run.proofs.AboveLemmas.{holds_above}
 use Rattle.boot_run.proofs.FrameLemmas.{left_images}
 use Rattle.boot_run.proofs.MadeLemmas.{made_by_left, made_by_ok}

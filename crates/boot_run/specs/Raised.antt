@@ -1,5 +1,5 @@
 -- What a confirmation under anti-rollback rewrites, burns and answers: the entry first, and then the bits.
-use Rattle.std.specs.Prelude.{◌≡◌, ◌≢◌, ◌⊎◌, ◌≤◌, ℕ, nat_lt, List, [], ◌∷◌, Option, Some, None, IfSome, Result, Ok, Err, IfOk, OnOk, OnErr, if◌then◌else◌}
+use Rattle.std.specs.Prelude.{◌≡◌, ◌⊎◌, ℕ, nat_lt, List, [], ◌∷◌, Option, Some, None, IfSome, Result, Ok, Err, IfOk, OnOk, if◌then◌else◌}
 use Rattle.nor_device.specs.declared.nor.NorFault.{NorFault}
 use Rattle.nor_device.specs.declared.nor.NorFault.TheVariants.{Failed, Off}
 use Rattle.nor_device.specs.declared.step.Step.{Step}

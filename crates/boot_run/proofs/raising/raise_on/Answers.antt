@@ -1,4 +1,3 @@
-use Rattle.std.proofs.Common.{refl}
 use Rattle.std.proofs.lemmas.Result.{err_from_is_err_and}
 use Rattle.boot_run.proofs.MadeLemmas.{missed_none}
 use Rattle.boot_run.proofs.StartedLemmas.{any_entries, read_pair}

@@ -1,4 +1,4 @@
-use Rattle.std.proofs.Common.{◌≡◌, ◌∙◌, IfOk, refl, ap, subst}
+use Rattle.std.proofs.Common.{◌∙◌, IfOk, refl, ap, subst}
 use Rattle.std.proofs.lemmas.Result.{err_from_is_err_and}
 use Rattle.boot_select.specs.Choice.{named_of}
 use Rattle.rollback.specs.Verdict.{confirm_of}
