@@ -16,3 +16,4 @@ pub mod Knowing
 pub mod Fixing
 pub mod Prefixes
 pub mod Forgetting
+mod LineLaws

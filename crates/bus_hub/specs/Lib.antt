@@ -7,4 +7,5 @@ pub mod Shares
 pub mod Legal
 pub mod HubView
 pub mod Told
+pub mod Lines
 pub mod Moments

@@ -9,6 +9,7 @@ ghost use Rattle.bus_hub.specs.Legal.{IsLegal};
 ghost use Rattle.bus_hub.specs.Told.{IsSafe};
 ghost use Rattle.bus_hub.specs.Hub.{Hub, Stands, IsBaseOf, IsTold, opened, record_of, core_of};
 
+use crate::cached::Cached;
 use crate::did::{Base, Did, Running};
 use crate::duty::Duty;
 use crate::journal::Journal;
@@ -17,11 +18,11 @@ use crash_images::Crash;
 use mmu_map::Pages;
 use std::marker::Model;
 
-/// The device with the pages that the cache shows of it, the journal, the duty, and both cores'
-/// registers.
+/// The device behind the lines of both cores, the pages that the cache shows of it, the journal, the
+/// duty, and both cores' registers.
 #[derive(Drop)]
 pub struct Bus<D: Crash, K: Duty> {
-    pub(crate) dev: D,
+    pub(crate) dev: Cached<D>,
     pub(crate) pages: Pages,
     pub(crate) journal: Journal,
     pub(crate) duty: K,
@@ -99,7 +100,7 @@ impl<D: Crash, K: Duty> Bus<D, K> {
     {
         pages.whole();
         let bus = Bus {
-            dev,
+            dev: Cached::new(dev),
             pages,
             journal,
             duty,
@@ -117,7 +118,7 @@ impl<D: Crash, K: Duty> Bus<D, K> {
         ensures exact { result ≡ (self.dev, self.journal, self.duty) }
         ensures idle { D.running result.0 ≡ None }
     {
-        (self.dev, self.journal, self.duty)
+        (self.dev.into_inner(), self.journal, self.duty)
     }
 
     /// Gives device, journal and duty back. The journal is legal, and no step is open at its end.

@@ -2,11 +2,13 @@
 #![tactic(auto)]
 
 mod bus;
+mod cached;
 mod did;
 mod duty;
 mod entry;
 mod journal;
 mod laws;
+mod line;
 mod maps;
 mod reads;
 mod registers;

@@ -17,7 +17,7 @@ use crate::span::{Span, read_parts, span_in};
 use core_state::{Records, Regs};
 use crash_images::Crash;
 use image_layout::is_data;
-use nor_device::NorFault;
+use nor_device::{Nor, NorFault};
 
 /// Why nothing was fetched, in this order.
 #[derive(Clone, Copy, Debug, PartialEq, Eq)]
@@ -85,8 +85,8 @@ impl<D: Crash, K: Duty> Bus<D, K> {
         span_in(&self.pages, self.dev.size(), at, len)
     }
 
-    /// Reads the bytes of the range.
-    fn fill(&mut self, span: &Span, out: &mut [u8]) -> Result<(), NorFault>
+    /// Reads the bytes of the range by the lines of the core.
+    fn fill(&mut self, c: u8, span: &Span, out: &mut [u8]) -> Result<(), NorFault>
         requires idle { self.old.running ≡ None }
         requires some { 1 ≤ span.now.front }
         requires most { span.now.front ≤ length out.old }
@@ -98,7 +98,7 @@ impl<D: Crash, K: Duty> Bus<D, K> {
         ensures device { Asks D.bytes D.size D.off D.steps D.faults D.setting D.may_refuse
             D.must_refuse self.old.dev self.new.dev result }
     {
-        read_parts(&mut self.dev, span, out)
+        read_parts(&mut self.dev, c, span, out)
     }
 
     /// Notes the bytes that were fetched.
@@ -138,7 +138,7 @@ impl<D: Crash, K: Duty> Bus<D, K> {
         }
         let mut bytes = [0; 256];
         let out = &mut bytes[..len as usize];
-        match self.fill(&span, out) {
+        match self.fill(c, &span, out) {
             Ok(()) => {}
             Err(NorFault::Off) => return Err(FetchNo::Off),
             Err(NorFault::Failed) => return Err(FetchNo::Failed),

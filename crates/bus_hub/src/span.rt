@@ -4,8 +4,10 @@ ghost use Rattle.std.specs.Prelude.{◌≡◌, ◌+◌, ◌-◌, ◌<◌, ◌≤
 ghost use Rattle.bus_hub.specs.Fetch.{IsUnmapped};
 ghost use Rattle.bus_hub.specs.Told.{Asks, IsSplit, IsBothParts};
 
+use crate::cached::Cached;
+use crash_images::Crash;
 use mmu_map::Pages;
-use nor_device::{Nor, NorFault};
+use nor_device::NorFault;
 
 /// The bytes of a page.
 const PAGE_SIZE: u32 = 0x1_0000;
@@ -45,8 +47,13 @@ pub(crate) fn span_in(pages: &Pages, size: u32, at: u32, len: u32) -> Option<Spa
     Some(Span { from, front, then })
 }
 
-/// Reads both parts of the range.
-pub(crate) fn read_parts<D: Nor>(dev: &mut D, span: &Span, out: &mut [u8]) -> Result<(), NorFault>
+/// Reads both parts of the range by the lines of the core.
+pub(crate) fn read_parts<D: Crash>(
+    dev: &mut Cached<D>,
+    core: u8,
+    span: &Span,
+    out: &mut [u8],
+) -> Result<(), NorFault>
     requires idle { D.running dev.old ≡ None }
     requires some { 1 ≤ span.now.front }
     requires most { span.now.front ≤ length out.old }
@@ -59,9 +66,9 @@ pub(crate) fn read_parts<D: Nor>(dev: &mut D, span: &Span, out: &mut [u8]) -> Re
         dev.old dev.new result }
 {
     let front = span.front as usize;
-    dev.read(span.from, &mut out[..front])?;
+    dev.read_lines(core, span.from, &mut out[..front])?;
     if front < out.len() {
-        dev.read(span.then, &mut out[front..])?;
+        dev.read_lines(core, span.then, &mut out[front..])?;
     }
     Ok(())
 }

@@ -17,7 +17,7 @@ use crate::duty::Duty;
 use crate::entry::{Act, Entry};
 use core_state::{Records, Regs};
 use crash_images::Crash;
-use nor_device::{NorFault, Ready, Step, StepEnd};
+use nor_device::{Nor, NorFault, Ready, Step, StepEnd};
 
 /// The entry of a step that begins.
 fn open_act(step: &Step) -> Act
