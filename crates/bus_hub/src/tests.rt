@@ -152,14 +152,14 @@ const AT: u32 = 0x3F40_0020;
 /// 0x10000 mapped.
 fn counting(alloc: Global, failing: u64) -> Result<Bus<FlakyNor<RamNor>, AnyDuty>, Fail>
     ensures idle { IfOk result (λ bus. bus.running ≡ None) }
-    ensures room { IfOk result (λ bus. HasRoom bus.journal 20 1024) }
+    ensures room { IfOk result (λ bus. HasRoom bus.journal 20 2048) }
     ensures left { IfOk result (λ bus. IsNone bus.left.saved) }
     ensures right { IfOk result (λ bus. IsNone bus.right.saved) }
     ensures size { IfOk result (λ bus. ⟦<FlakyNor<RamNor> as Nor>⟧.size bus.dev ≡ 1048576) }
 {
     let room = Room {
         entries: 10,
-        bytes: 512,
+        bytes: 1024,
     };
     let dev = FlakyNor::new(RamNor::of_bytes(filled(alloc, 0xC3, SIZE)?, 0), failing);
     let journal = Journal::with_room(alloc, [room, room])?;
@@ -196,7 +196,7 @@ fn is_fetched(
 }
 
 /// Waits for the end of the step that a core began, and tells whether it was made.
-fn is_made(bus: &mut Bus<FlakyNor<RamNor>, AnyDuty>, c: u8, later: u32) -> bool
+fn is_made<D: Crash>(bus: &mut Bus<D, AnyDuty>, c: u8, later: u32) -> bool
     requires core { c < 2 }
     requires running { core_of bus.old.running ≡ Some c }
     requires left { IsNone bus.old.left.saved }

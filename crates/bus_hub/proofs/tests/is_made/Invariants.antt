@@ -1,4 +1,4 @@
-use Rattle.std.specs.Prelude.{IsNone, ◌+◌, ◌*◌, ◌×◌}
+use Rattle.std.specs.Prelude.{IsNone, ◌+◌, ◌*◌}
 use Rattle.std.proofs.Common.{◌≡◌, Some}
 use Rattle.bus_hub.specs.Room.{HasRoom}
 use Rattle.bus_hub.specs.Hub.{core_of}
@@ -10,4 +10,4 @@ invariant-loop g l = (core_of l.bus.running ≡ Some l.c) × IsNone l.bus.left.s
     × HasRoom l.bus.journal (2 * l.later + 1) (256 * l.later)
 
 abbrev pub decreases-loop : goal.decreases-loop
-decreases-loop g l = g.FlakyNor-RamNor.Nor.left l.bus.dev
+decreases-loop g l = g.D.Nor.left l.bus.dev
