@@ -1,6 +1,6 @@
 -- How the fields of the journal show in a contract.
 use Rattle.std.specs.Prelude.{◌+◌, ◌^◌, ◌<◌, ◌≤◌, vec_capacity}
-use Rattle.bus_hub.specs.declared.journal.Journal.TheInside.{Inside}
+use Rattle.bus_hub.specs.declared.journal.Notes.TheInside.{Inside}
 use Rattle.bus_hub.specs.Room.{Kept}
 
 -- the fields, with entries and bytes as lists

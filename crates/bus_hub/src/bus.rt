@@ -12,7 +12,7 @@ ghost use Rattle.bus_hub.specs.Hub.{Hub, Stands, IsBaseOf, IsTold, opened, recor
 use crate::cached::Cached;
 use crate::did::{Base, Did, Running};
 use crate::duty::Duty;
-use crate::journal::Journal;
+use crate::journal::{Journal, Notes};
 use core_state::{Record, Records};
 use crash_images::Crash;
 use mmu_map::Pages;
@@ -24,7 +24,7 @@ use std::marker::Model;
 pub struct Bus<D: Crash, K: Duty> {
     pub(crate) dev: Cached<D>,
     pub(crate) pages: Pages,
-    pub(crate) journal: Journal,
+    pub(crate) journal: Notes,
     pub(crate) duty: K,
     pub(crate) running: Option<Running>,
     pub(crate) left: Record,
@@ -99,10 +99,11 @@ impl<D: Crash, K: Duty> Bus<D, K> {
         ensures leaves { IsSafe ⟦<Bus<D, K> as Records>⟧.stands D.may_leave K.good result }
     {
         pages.whole();
+        let (notes, lines) = journal.split();
         let bus = Bus {
-            dev: Cached::new(dev),
+            dev: Cached::new(dev, lines),
             pages,
-            journal,
+            journal: notes,
             duty,
             running: None,
             left: Record::starting(),
@@ -118,7 +119,8 @@ impl<D: Crash, K: Duty> Bus<D, K> {
         ensures exact { result ≡ (self.dev, self.journal, self.duty) }
         ensures idle { D.running result.0 ≡ None }
     {
-        (self.dev.into_inner(), self.journal, self.duty)
+        let (dev, lines) = self.dev.into_inner();
+        (dev, Journal::of(self.journal, lines), self.duty)
     }
 
     /// Gives device, journal and duty back. The journal is legal, and no step is open at its end.

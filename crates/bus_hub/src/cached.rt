@@ -15,7 +15,7 @@ use std::marker::Model;
 #[derive(Drop)]
 pub(crate) struct Cached<D: Crash> {
     dev: D,
-    lines: [Line; 128],
+    lines: Box<[Line; 128]>,
 }
 
 // Clauses see the device alone: a line that is held shows what it holds.
@@ -27,7 +27,7 @@ impl<D: Crash> Model for Cached<D> {
     ghost view = { λ c. c.dev };
 
     ghost invariant = { λ c. AreTrue D.bytes D.running D.off D.steps D.setting D.must_refuse
-        c.dev c.lines };
+        c.dev c.lines.value };
 }
 
 /// The place of a core's line for the bytes from the address on.
@@ -44,21 +44,20 @@ fn place_of(core: u8, from: u32) -> usize
 
 impl<D: Crash> Cached<D> {
     /// The device, with no line held.
-    pub(crate) fn new(dev: D) -> Cached<D>
+    pub(crate) fn new(dev: D, lines: Box<[Line; 128]>) -> Cached<D>
         requires told { IsTold (D.bytes dev) }
         ensures exact { result ≡ dev }
     {
-        Cached {
-            dev,
-            lines: no_lines(),
-        }
+        let mut lines = lines;
+        *lines = no_lines();
+        Cached { dev, lines }
     }
 
-    /// Gives the device back.
-    pub(crate) fn into_inner(self) -> D
-        ensures exact { result ≡ self }
+    /// Gives the device back, and the memory of the lines.
+    pub(crate) fn into_inner(self) -> (D, Box<[Line; 128]>)
+        ensures exact { result.0 ≡ self }
     {
-        self.dev
+        (self.dev, self.lines)
     }
 
     /// Reads a line from the device into its place, and copies the part of it from the address on.
@@ -85,7 +84,7 @@ impl<D: Crash> Cached<D> {
                 Ok(())
             }
             Err(why) => {
-                self.lines = no_lines();
+                *self.lines = no_lines();
                 Err(why)
             }
         }
@@ -106,8 +105,8 @@ impl<D: Crash> Cached<D> {
             return self.read(at, out);
         }
         let place = place_of(core, from);
-        if is_held(&self.lines, place, from) {
-            copy_line(&self.lines, place, at, out);
+        if is_held(&*self.lines, place, from) {
+            copy_line(&*self.lines, place, at, out);
             return Ok(());
         }
         self.load_line(place, at, out)
@@ -172,18 +171,18 @@ impl<D: Crash> Nor for Cached<D> {
         match self.dev.read(at, out) {
             Ok(()) => Ok(()),
             Err(why) => {
-                self.lines = no_lines();
+                *self.lines = no_lines();
                 Err(why)
             }
         }
     }
 
     fn start(&mut self, step: &Step) -> Result<(), NorFault> {
-        drop_for(&mut self.lines, step);
+        drop_for(&mut *self.lines, step);
         match self.dev.start(step) {
             Ok(()) => Ok(()),
             Err(why) => {
-                self.lines = no_lines();
+                *self.lines = no_lines();
                 Err(why)
             }
         }
@@ -193,7 +192,7 @@ impl<D: Crash> Nor for Cached<D> {
         match self.dev.poll() {
             Ok(ready) => Ok(ready),
             Err(why) => {
-                self.lines = no_lines();
+                *self.lines = no_lines();
                 Err(why)
             }
         }
