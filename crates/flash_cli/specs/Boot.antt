@@ -7,6 +7,7 @@ use Rattle.partition_table.specs.Layout.{Places}
 use Rattle.image_verify.specs.Held.{held}
 use Rattle.rollback.specs.Boots.{boots_in}
 use Rattle.boot_run.specs.declared.booted.Booted.{Booted}
+use Rattle.boot_run.specs.Above.{held_above}
 use Rattle.boot_run.specs.BootSteps.{boot_steps}
 use Rattle.boot_run.specs.Verified.{Starts}
 use Rattle.flash_text.specs.declared.refusal.Refusal.{Refusal}
@@ -47,6 +48,11 @@ started_by flash steps (Some booted) =
 unfoldable pub started_in : List ℕ → Places → Result Started Refusal
 started_in flash layout = started_by flash (boot_steps layout flash) (boots_in held layout flash)
 
+-- what a boot by a level makes of it
+unfoldable pub started_above : ℕ → List ℕ → Places → Result Started Refusal
+started_above level flash layout =
+    started_by flash (boot_steps layout flash) (boots_in (held_above level) layout flash)
+
 -- what a boot makes of a flash by its layout, where it has one
 abbrev pub started_from : List ℕ → Result Places Refusal → Result Started Refusal
 started_from flash (Ok layout) = started_in flash layout
@@ -64,15 +70,16 @@ answer_of_started out (Err why) = Err why
 abbrev pub boot_answer : List ℕ → List ℕ → Result Answer Refusal
 boot_answer flash out = answer_of_started out (started_from flash (laid flash))
 
--- A boot of a device with this flash: its steps were made, and this was started of which this is
--- told.
-pub record IsStarted (layout : Places) (flash : List ℕ) (now : Option (List ℕ)) (booted : Booted)
-    : Type 0 where
-  pub starts : Starts (boots_in held layout flash) booted.app booted.info
+-- A boot of a device with this flash by a level: its steps were made, and this was started of which
+-- this is told.
+pub record IsStarted (level : ℕ) (layout : Places) (flash : List ℕ) (now : Option (List ℕ))
+    (booted : Booted) : Type 0 where
+  pub starts : Starts (boots_in (held_above level) layout flash) booted.app booted.info
   pub counted : booted.steps ≡ length (boot_steps layout flash)
   pub left : now ≡ Some (after_steps flash (boot_steps layout flash))
 
--- the boot of a device with this flash ended so: by a start, or since nothing boots
-abbrev pub BootEnds : Places → List ℕ → Option (List ℕ) → Result Booted Refusal → Type 0
-BootEnds layout flash now (Ok booted) = IsStarted layout flash now booted
-BootEnds layout flash now (Err why) = (boots_in held layout flash ≡ None) × (why ≡ NoApplication)
+-- the boot of a device with this flash ended so: by a start, or since nothing boots above the level
+abbrev pub BootEnds : ℕ → Places → List ℕ → Option (List ℕ) → Result Booted Refusal → Type 0
+BootEnds level layout flash now (Ok booted) = IsStarted level layout flash now booted
+BootEnds level layout flash now (Err why) =
+    (boots_in (held_above level) layout flash ≡ None) × (why ≡ NoApplication)

@@ -5,9 +5,9 @@ use Rattle.std.specs.declared.alloc.Global.{Global}
 use Rattle.pipe_ends.specs.Number.{number_of_text}
 use Rattle.flash_cli.specs.declared.command.Row.{Row as CodeRow}
 use Rattle.flash_cli.specs.declared.command.Kind.{Kind}
-use Rattle.flash_cli.specs.declared.command.Kind.TheVariants.{Choose as ChooseKind, Boot as BootKind, Confirm as ConfirmKind, Reject as RejectKind, ImageMake as ImageMakeKind, ImageCheck as ImageCheckKind, TableMake as TableMakeKind, TableShow as TableShowKind, FlashMake as FlashMakeKind, Update as UpdateKind, Sweep as SweepKind}
+use Rattle.flash_cli.specs.declared.command.Kind.TheVariants.{Choose as ChooseKind, Boot as BootKind, Confirm as ConfirmKind, Reject as RejectKind, ImageMake as ImageMakeKind, ImageCheck as ImageCheckKind, TableMake as TableMakeKind, TableShow as TableShowKind, FlashMake as FlashMakeKind, Update as UpdateKind, Sweep as SweepKind, BootFuse as BootFuseKind, ConfirmFuse as ConfirmFuseKind}
 use Rattle.flash_cli.specs.declared.command.Command.{Command as Parsed}
-use Rattle.flash_cli.specs.declared.command.Command.TheVariants.{Choose as ParsedChoose, Boot as ParsedBoot, Confirm as ParsedConfirm, Reject as ParsedReject, ImageMake as ParsedImageMake, ImageCheck as ParsedImageCheck, TableMake as ParsedTableMake, TableShow as ParsedTableShow, FlashMake as ParsedFlashMake}
+use Rattle.flash_cli.specs.declared.command.Command.TheVariants.{Choose as ParsedChoose, Boot as ParsedBoot, Confirm as ParsedConfirm, Reject as ParsedReject, ImageMake as ParsedImageMake, ImageCheck as ParsedImageCheck, TableMake as ParsedTableMake, TableShow as ParsedTableShow, FlashMake as ParsedFlashMake, BootFuse as ParsedBootFuse, ConfirmFuse as ParsedConfirmFuse}
 
 -- a row of the table of commands: the word, how many names stand after it, the words of the options
 -- that may stand after these, and whether it starts cores
@@ -58,6 +58,8 @@ rows =
     ∷ plain_row FlashMakeKind (codes "flash-make") 4
     ∷ update_row
     ∷ sweep_row
+    ∷ plain_row BootFuseKind (codes "boot-fuse") 3
+    ∷ plain_row ConfirmFuseKind (codes "confirm-fuse") 4
     ∷ []
 
 -- a row of the code
@@ -82,6 +84,8 @@ pub data Command : Type 0 where
   TableMake : List ℕ → List ℕ → Command
   TableShow : List ℕ → Command
   FlashMake : List ℕ → List ℕ → ℕ → List ℕ → Command
+  BootFuse : List ℕ → List ℕ → List ℕ → Command
+  ConfirmFuse : List ℕ → List ℕ → List ℕ → List ℕ → Command
 
 -- the command of this kind with these names, where it starts no cores, they are as many as it has,
 -- and what is to be a number is one
@@ -107,6 +111,11 @@ made FlashMakeKind (table ∷ image ∷ size ∷ out ∷ []) =
 made FlashMakeKind _ = None
 made UpdateKind _ = None
 made SweepKind _ = None
+made BootFuseKind (flash ∷ fuse ∷ out ∷ []) = Some (BootFuse flash fuse out)
+made BootFuseKind _ = None
+made ConfirmFuseKind (flash ∷ fuse ∷ out ∷ fuse_out ∷ []) =
+    Some (ConfirmFuse flash fuse out fuse_out)
+made ConfirmFuseKind _ = None
 
 -- a command without the borrow of its words
 abbrev pub shown : Parsed → Command
@@ -119,6 +128,9 @@ shown (ParsedImageCheck file) = ImageCheck file.now
 shown (ParsedTableMake csv out) = TableMake csv.now out.now
 shown (ParsedTableShow file) = TableShow file.now
 shown (ParsedFlashMake table image size out) = FlashMake table.now image.now size out.now
+shown (ParsedBootFuse flash fuse out) = BootFuse flash.now fuse.now out.now
+shown (ParsedConfirmFuse flash fuse out fuse_out) =
+    ConfirmFuse flash.now fuse.now out.now fuse_out.now
 
 -- whether a word can name a file: it isn't empty, and doesn't begin with a minus sign
 abbrev pub is_file_name : List ℕ → Bool

@@ -17,6 +17,9 @@ pub mod ImageCheck
 pub mod TableMake
 pub mod TableShow
 pub mod FlashMake
+pub mod Fuse
+pub mod BootFuse
+pub mod ConfirmFuse
 pub mod Report
 pub mod Unbegun
 pub mod Updating

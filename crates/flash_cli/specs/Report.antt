@@ -15,7 +15,7 @@ use Rattle.image_maker.specs.declared.refusal.PlanNo.TheVariants as no_plan
 use Rattle.flash_text.specs.declared.refusal.Refusal.TheVariants.{Absent as AbsentFile, Plan}
 use Rattle.flash_cli.specs.declared.status.Status.{Status}
 use Rattle.flash_cli.specs.declared.status.Status.TheVariants.{Done}
-use Rattle.flash_cli.specs.Command.{Command, Choose, Boot, Confirm, Reject, ImageMake, ImageCheck, TableMake, TableShow, FlashMake}
+use Rattle.flash_cli.specs.Command.{Command, Choose, Boot, Confirm, Reject, ImageMake, ImageCheck, TableMake, TableShow, FlashMake, BootFuse, ConfirmFuse}
 use Rattle.flash_cli.specs.Reading.{Reading, Ended, Asks, Absence, ComesTo, TellsAnswer, asks_all, read_in}
 use Rattle.flash_cli.specs.Answer.{Answer, Outcome, TellsPuts, TellsSomePuts, shown_answer, usage_outcome, refused_outcome}
 use Rattle.flash_cli.specs.Choose.{choose_answer}
@@ -27,6 +27,8 @@ use Rattle.flash_cli.specs.ImageCheck.{image_check_answer}
 use Rattle.flash_cli.specs.TableMake.{table_make_answer}
 use Rattle.flash_cli.specs.TableShow.{table_show_answer}
 use Rattle.flash_cli.specs.FlashMake.{flash_make_answer}
+use Rattle.flash_cli.specs.BootFuse.{boot_fuse_answer}
+use Rattle.flash_cli.specs.ConfirmFuse.{confirm_fuse_answer}
 
 -- what each command reads, and what it comes to: its answer, or the first refusal
 abbrev pub reading_of : Command → Reading (Result Answer Refusal)
@@ -40,6 +42,10 @@ reading_of (TableMake csv out) = Asks csv (λ bytes. Ended (table_make_answer ou
 reading_of (TableShow file) = Asks file (λ bytes. Ended (table_show_answer bytes))
 reading_of (FlashMake table image size out) =
     Asks table (λ rows. Asks image (λ bytes. Ended (flash_make_answer rows bytes size out)))
+reading_of (BootFuse flash fuse out) =
+    Asks flash (λ bytes. Asks fuse (λ word. Ended (boot_fuse_answer bytes word out)))
+reading_of (ConfirmFuse flash fuse out fuse_out) =
+    Asks flash (λ bytes. Asks fuse (λ word. Ended (confirm_fuse_answer bytes word out fuse_out)))
 
 -- the outcome of a command that came to this
 abbrev pub outcome_of : Result (Result Answer Refusal) Absence → Outcome

@@ -1,6 +1,6 @@
 //! What a command comes to.
 
-ghost use Rattle.std.specs.Prelude.{◌≡◌, [], ◌∷◌, Ok, IfOk, IfErr, map};
+ghost use Rattle.std.specs.Prelude.{◌≡◌, [], ◌∷◌, ◌++◌, Ok, IfOk, IfErr, map};
 ghost use Rattle.pipe_ends.specs.MemStore.{named_bytes};
 ghost use Rattle.flash_cli.specs.Answer.{shown_answer, text_only};
 ghost use Rattle.flash_cli.specs.Report.{IsWorkedOut};
@@ -41,6 +41,28 @@ impl Answer {
         match named_file(alloc, name, bytes) {
             Ok(puts) => Ok(Answer { text, puts }),
             Err(failure) => Err(CommandError::Failed(failure)),
+        }
+    }
+
+    /// The answer with one file more, behind the others.
+    pub(crate) fn and_file(
+        self,
+        alloc: Global,
+        name: &str,
+        bytes: Vec<u8>,
+    ) -> Result<Answer, CommandError>
+        ensures exact { IsWorkedOut (Ok (record {
+            text = self.text.items;
+            puts = map named_bytes self.puts.items ++ (name.now, bytes.items) ∷ [];
+        })) result }
+    {
+        let Answer { text, mut puts } = self;
+        let Ok(name) = String::from_str(alloc, name) else {
+            return Err(CommandError::Failed(Failure::Memory));
+        };
+        match puts.push(File { name, bytes }) {
+            Ok(()) => Ok(Answer { text, puts }),
+            Err(_) => Err(CommandError::Failed(Failure::Memory)),
         }
     }
 }

@@ -4,7 +4,7 @@ ghost use Rattle.std.specs.Prelude.{◌≡◌, ◌≤◌, ◌<◌, ◌^◌, None
 ghost use Rattle.nor_device.specs.FlashSize.{IsFlashSize};
 ghost use Rattle.partition_table.specs.Layout.{IsPlaced};
 ghost use Rattle.flash_cli.specs.Command.{Boot};
-ghost use Rattle.flash_cli.specs.Boot.{BootEnds, boot_answer, shown_started, started_in, started_with};
+ghost use Rattle.flash_cli.specs.Boot.{BootEnds, answer_of_started, boot_answer, shown_started, started_above, started_in, started_with};
 ghost use Rattle.update_run.specs.Device.{IsSure};
 ghost use Rattle.flash_cli.specs.Report.{IsEnd, IsWorkedOut, reading_of};
 
@@ -12,7 +12,7 @@ use crate::answer::Answer;
 use crate::error::CommandError;
 use crate::files::needed_file;
 use crate::laid::layout_of;
-use boot_run::{BootFault, Booted, boot};
+use boot_run::{BootFault, Booted, boot_above};
 use flash_text::{Refusal, put_booted};
 use nor_device::Nor;
 use partition_table::{App, Layout};
@@ -53,6 +53,17 @@ fn boot_file(alloc: Global, flash: Vec<u8>, out: &str) -> Result<Answer, Command
 {
     let layout = layout_of(&flash)?;
     let started = start_flash(flash, &layout)?;
+    started_answer(alloc, started, out)
+}
+
+/// A flash that was booted as the file that is put, and what was started.
+pub(crate) fn started_answer(
+    alloc: Global,
+    started: Started,
+    out: &str,
+) -> Result<Answer, CommandError>
+    ensures exact { IsWorkedOut (answer_of_started out.now (Ok (shown_started started))) result }
+{
     let mut text = Vec::new(alloc);
     put_booted(
         &mut text,
@@ -72,8 +83,20 @@ fn start_flash(flash: Vec<u8>, layout: &Layout) -> Result<Started, Refusal>
         (λ started. started_in flash.items layout.now ≡ Ok (shown_started started)) }
     ensures err { IfErr result (λ why. started_in flash.items layout.now ≡ Err why) }
 {
+    start_above(flash, layout, 0)
+}
+
+/// Boots a flash once, by a level of anti-rollback.
+pub(crate) fn start_above(flash: Vec<u8>, layout: &Layout, level: u32) -> Result<Started, Refusal>
+    requires size { IsFlashSize (length flash.items) }
+    requires small { length flash.items < 2 ^ 32 }
+    requires placed { IsPlaced layout.now (length flash.items) }
+    ensures ok { IfOk result
+        (λ started. started_above level flash.items layout.now ≡ Ok (shown_started started)) }
+    ensures err { IfErr result (λ why. started_above level flash.items layout.now ≡ Err why) }
+{
     let mut device = device_of(flash);
-    match boot_sure(&mut device, layout) {
+    match boot_sure(&mut device, layout, level) {
         Ok(booted) => Ok(with_flash(&booted, bytes_of(device))),
         Err(why) => Err(why),
     }
@@ -92,17 +115,17 @@ fn with_flash(booted: &Booted, flash: Vec<u8>) -> Started
     }
 }
 
-/// Boots a device that refuses nothing.
-fn boot_sure<D: Nor>(device: &mut D, layout: &Layout) -> Result<Booted, Refusal>
+/// Boots a device that refuses nothing, by a level.
+fn boot_sure<D: Nor>(device: &mut D, layout: &Layout, level: u32) -> Result<Booted, Refusal>
     requires idle { D.running device.old ≡ None }
     requires placed { IsPlaced layout.now (D.size device.old) }
     requires small { D.size device.old < 2 ^ 32 }
     requires sure { IsSure D.may_end D.may_refuse (D.setting device.old) }
     ensures idle { D.running device.new ≡ None }
     ensures exact { IfSome (D.bytes device.old)
-        (λ flash. BootEnds layout.now flash (D.bytes device.new) result) }
+        (λ flash. BootEnds level layout.now flash (D.bytes device.new) result) }
 {
-    match boot(device, layout) {
+    match boot_above(device, layout, level) {
         Ok(booted) => Ok(booted),
         Err(BootFault::NoApp) => Err(Refusal::NoApplication),
         Err(BootFault::Device) => unreachable!(),

@@ -169,10 +169,10 @@ $ reject no_table X
 refused: table magic row 0
 status 2
 $ boot F0
-usage: flash_cli choose|boot|confirm|reject|image-make|image-check|table-make|table-show|flash-make|update|sweep
+usage: flash_cli choose|boot|confirm|reject|image-make|image-check|table-make|table-show|flash-make|update|sweep|boot-fuse|confirm-fuse
 status 1
 $ confirm F0 X X
-usage: flash_cli choose|boot|confirm|reject|image-make|image-check|table-make|table-show|flash-make|update|sweep
+usage: flash_cli choose|boot|confirm|reject|image-make|image-check|table-make|table-show|flash-make|update|sweep|boot-fuse|confirm-fuse
 status 1
 ";
 

@@ -32,6 +32,10 @@ pub(crate) enum Kind {
     Update,
     /// `sweep FLASH IMAGE SCRIPT`
     Sweep,
+    /// `boot-fuse FLASH FUSE OUT`
+    BootFuse,
+    /// `confirm-fuse FLASH FUSE OUT FUSEOUT`
+    ConfirmFuse,
 }
 
 /// A row of the table of commands: the word, how many names stand after it, the words of the
@@ -46,7 +50,7 @@ pub(crate) struct Row {
 }
 
 /// How many commands there are.
-const COMMANDS: usize = 11;
+const COMMANDS: usize = 13;
 
 /// The table of commands, in the order of the usage line.
 pub(crate) fn table() -> [Row; COMMANDS]
@@ -76,6 +80,8 @@ pub(crate) fn table() -> [Row; COMMANDS]
             options: &["--tear"],
             cores: true,
         },
+        Row::plain(Kind::BootFuse, "boot-fuse", 3),
+        Row::plain(Kind::ConfirmFuse, "confirm-fuse", 4),
     ]
 }
 
@@ -126,6 +132,20 @@ pub(crate) enum Command<'a> {
         image: &'a str,
         size: u64,
         out: &'a str,
+    },
+    /// Put a flash once it has booted what is no older than fuses show, and print what it started.
+    BootFuse {
+        flash: &'a str,
+        fuse: &'a str,
+        out: &'a str,
+    },
+    /// Put a flash once its active entry is VALID, and fuses whose level is the secure version of its
+    /// application, and print the application and the level.
+    ConfirmFuse {
+        flash: &'a str,
+        fuse: &'a str,
+        out: &'a str,
+        fuse_out: &'a str,
     },
 }
 
@@ -200,6 +220,19 @@ impl<'a> Command<'a> {
             (Kind::FlashMake, _) => None,
             (Kind::Update, _) => None,
             (Kind::Sweep, _) => None,
+            (Kind::BootFuse, [flash, fuse, out]) => Some(Command::BootFuse {
+                flash: flash.as_str(),
+                fuse: fuse.as_str(),
+                out: out.as_str(),
+            }),
+            (Kind::BootFuse, _) => None,
+            (Kind::ConfirmFuse, [flash, fuse, out, fuse_out]) => Some(Command::ConfirmFuse {
+                flash: flash.as_str(),
+                fuse: fuse.as_str(),
+                out: out.as_str(),
+                fuse_out: fuse_out.as_str(),
+            }),
+            (Kind::ConfirmFuse, _) => None,
         }
     }
 }

@@ -231,13 +231,13 @@ $ flash-make T L 4194304 X
 refused: image too large 1048592 1048576
 status 2
 $ flash-make T A 4M X
-usage: flash_cli choose|boot|confirm|reject|image-make|image-check|table-make|table-show|flash-make|update|sweep
+usage: flash_cli choose|boot|confirm|reject|image-make|image-check|table-make|table-show|flash-make|update|sweep|boot-fuse|confirm-fuse
 status 1
 $ flash-make T A 4194304
-usage: flash_cli choose|boot|confirm|reject|image-make|image-check|table-make|table-show|flash-make|update|sweep
+usage: flash_cli choose|boot|confirm|reject|image-make|image-check|table-make|table-show|flash-make|update|sweep|boot-fuse|confirm-fuse
 status 1
 $ image-check A --cut 1
-usage: flash_cli choose|boot|confirm|reject|image-make|image-check|table-make|table-show|flash-make|update|sweep
+usage: flash_cli choose|boot|confirm|reject|image-make|image-check|table-make|table-show|flash-make|update|sweep|boot-fuse|confirm-fuse
 status 1
 ";
 

@@ -3,15 +3,20 @@
 
 mod answer;
 mod boot;
+mod boot_fuse;
 #[cfg(test)]
 mod boot_tests;
 mod choice;
 mod choose;
 mod command;
 mod confirm;
+mod confirm_fuse;
 mod error;
 mod files;
 mod flash_make;
+mod fuse;
+#[cfg(test)]
+mod fuse_tests;
 mod image_check;
 mod image_make;
 #[cfg(test)]

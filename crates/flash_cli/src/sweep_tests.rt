@@ -79,19 +79,19 @@ $ sweep A B empty
 refused: flash size 80
 status 2
 $ sweep F0 B
-usage: flash_cli choose|boot|confirm|reject|image-make|image-check|table-make|table-show|flash-make|update|sweep
+usage: flash_cli choose|boot|confirm|reject|image-make|image-check|table-make|table-show|flash-make|update|sweep|boot-fuse|confirm-fuse
 status 1
 $ sweep F0 B empty X
-usage: flash_cli choose|boot|confirm|reject|image-make|image-check|table-make|table-show|flash-make|update|sweep
+usage: flash_cli choose|boot|confirm|reject|image-make|image-check|table-make|table-show|flash-make|update|sweep|boot-fuse|confirm-fuse
 status 1
 $ sweep F0 B empty --cut 1
-usage: flash_cli choose|boot|confirm|reject|image-make|image-check|table-make|table-show|flash-make|update|sweep
+usage: flash_cli choose|boot|confirm|reject|image-make|image-check|table-make|table-show|flash-make|update|sweep|boot-fuse|confirm-fuse
 status 1
 $ sweep F0 B empty --tear
-usage: flash_cli choose|boot|confirm|reject|image-make|image-check|table-make|table-show|flash-make|update|sweep
+usage: flash_cli choose|boot|confirm|reject|image-make|image-check|table-make|table-show|flash-make|update|sweep|boot-fuse|confirm-fuse
 status 1
 $ sweep F0 B empty --tear x
-usage: flash_cli choose|boot|confirm|reject|image-make|image-check|table-make|table-show|flash-make|update|sweep
+usage: flash_cli choose|boot|confirm|reject|image-make|image-check|table-make|table-show|flash-make|update|sweep|boot-fuse|confirm-fuse
 status 1
 ";
 

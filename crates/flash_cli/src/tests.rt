@@ -52,7 +52,7 @@ const SECOND: Numbers = (2, VALID, 0x55F63774);
 const THIRD: Numbers = (3, VALID, 0xED4A5011);
 
 pub(crate) const USAGE: &str = "usage: flash_cli choose|boot|confirm|reject|image-make|image-check|\
-    table-make|table-show|flash-make|update|sweep\n";
+    table-make|table-show|flash-make|update|sweep|boot-fuse|confirm-fuse\n";
 
 /// Names of flashes of 4 MiB, each with its entries.
 const ENTRIES: [(&str, [Numbers; 2]); 7] = [
@@ -125,19 +125,19 @@ $ choose missing
 refused: absent missing
 status 2
 $ choose
-usage: flash_cli choose|boot|confirm|reject|image-make|image-check|table-make|table-show|flash-make|update|sweep
+usage: flash_cli choose|boot|confirm|reject|image-make|image-check|table-make|table-show|flash-make|update|sweep|boot-fuse|confirm-fuse
 status 1
 $ choose blank blank
-usage: flash_cli choose|boot|confirm|reject|image-make|image-check|table-make|table-show|flash-make|update|sweep
+usage: flash_cli choose|boot|confirm|reject|image-make|image-check|table-make|table-show|flash-make|update|sweep|boot-fuse|confirm-fuse
 status 1
 $ choose -blank
-usage: flash_cli choose|boot|confirm|reject|image-make|image-check|table-make|table-show|flash-make|update|sweep
+usage: flash_cli choose|boot|confirm|reject|image-make|image-check|table-make|table-show|flash-make|update|sweep|boot-fuse|confirm-fuse
 status 1
 $ chose blank
-usage: flash_cli choose|boot|confirm|reject|image-make|image-check|table-make|table-show|flash-make|update|sweep
+usage: flash_cli choose|boot|confirm|reject|image-make|image-check|table-make|table-show|flash-make|update|sweep|boot-fuse|confirm-fuse
 status 1
 $ choos blank
-usage: flash_cli choose|boot|confirm|reject|image-make|image-check|table-make|table-show|flash-make|update|sweep
+usage: flash_cli choose|boot|confirm|reject|image-make|image-check|table-make|table-show|flash-make|update|sweep|boot-fuse|confirm-fuse
 status 1
 ";
 

@@ -9,9 +9,11 @@ ghost use Rattle.flash_cli.specs.Report.{IsOutcome, EndsWhole, EndsBeforeText, E
 
 use crate::answer::{Answer, Finished};
 use crate::boot::run_boot;
+use crate::boot_fuse::run_boot_fuse;
 use crate::choose::run_choose;
 use crate::command::Command;
 use crate::confirm::run_confirm;
+use crate::confirm_fuse::run_confirm_fuse;
 use crate::error::{CommandError, Failure};
 use crate::files::put_files;
 use crate::flash_make::run_flash_make;
@@ -149,5 +151,12 @@ fn carry_out<S: Store>(
             size,
             out,
         } => run_flash_make(alloc, store, table, image, size, out),
+        Command::BootFuse { flash, fuse, out } => run_boot_fuse(alloc, store, flash, fuse, out),
+        Command::ConfirmFuse {
+            flash,
+            fuse,
+            out,
+            fuse_out,
+        } => run_confirm_fuse(alloc, store, flash, fuse, out, fuse_out),
     }
 }

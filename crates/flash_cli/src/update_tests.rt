@@ -259,13 +259,13 @@ $ update A B empty none
 refused: flash size 80
 status 2
 $ update F0 B empty
-usage: flash_cli choose|boot|confirm|reject|image-make|image-check|table-make|table-show|flash-make|update|sweep
+usage: flash_cli choose|boot|confirm|reject|image-make|image-check|table-make|table-show|flash-make|update|sweep|boot-fuse|confirm-fuse
 status 1
 $ update F0 B empty none --cut 0
-usage: flash_cli choose|boot|confirm|reject|image-make|image-check|table-make|table-show|flash-make|update|sweep
+usage: flash_cli choose|boot|confirm|reject|image-make|image-check|table-make|table-show|flash-make|update|sweep|boot-fuse|confirm-fuse
 status 1
 $ update F0 B empty none --cut 1 --fail 1
-usage: flash_cli choose|boot|confirm|reject|image-make|image-check|table-make|table-show|flash-make|update|sweep
+usage: flash_cli choose|boot|confirm|reject|image-make|image-check|table-make|table-show|flash-make|update|sweep|boot-fuse|confirm-fuse
 status 1
 ";
 

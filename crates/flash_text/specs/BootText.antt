@@ -27,6 +27,11 @@ booted_lines app length steps = image_line (codes "booted ") app length ++ steps
 unfoldable pub confirmed_lines : App → ℕ → List ℕ
 confirmed_lines app steps = app_line (codes "confirmed ") app ++ steps_line steps
 
+-- the lines of a confirmation that raises the level of fuses, which is this one then
+unfoldable pub raised_lines : App → ℕ → ℕ → List ℕ
+raised_lines app steps level =
+    confirmed_lines app steps ++ codes "fuse " ++ decimal level ++ codes "\n"
+
 -- the lines of a rejection
 unfoldable pub rejected_lines : App → ℕ → List ℕ
 rejected_lines app steps = app_line (codes "rejected ") app ++ steps_line steps

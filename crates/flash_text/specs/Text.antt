@@ -1,10 +1,11 @@
 -- The lines of OTA data and of a refusal. Each ends by a line feed.
 use Rattle.std.specs.Prelude.{ℕ, Bool, List, ◌++◌, if◌then◌else◌, codes, decimal}
 use Rattle.partition_table.specs.declared.app.App.{App}
+use Rattle.partition_table.specs.declared.app.App.TheVariants.{Ota}
 use Rattle.otadata.specs.declared.entry.Entry.{Entry}
 use Rattle.otadata.specs.Choice.{is_valid}
 use Rattle.flash_text.specs.declared.refusal.Refusal.{Refusal}
-use Rattle.flash_text.specs.declared.refusal.Refusal.TheVariants.{Absent, FlashSize, TableLength, Table, Csv, Plan, Script, Make, Image, NotSettled, Conflict, SlotFlags, SeqSpent, TooLarge, SweepLimit, NoApplication, NoOtaApp, NothingElse, Empty, FirstByte}
+use Rattle.flash_text.specs.declared.refusal.Refusal.TheVariants.{Absent, FlashSize, TableLength, Table, Csv, Plan, Script, Make, Image, NotSettled, Conflict, SlotFlags, SeqSpent, TooLarge, SweepLimit, NoApplication, NoOtaApp, NothingElse, FuseLength, NotWhole, HighVersion, OldVersion, Empty, FirstByte}
 use Rattle.flash_text.specs.Names.{app_text, state_text}
 use Rattle.flash_text.specs.TableText.{table_bad_text, csv_text, hex_number, pair_text}
 use Rattle.flash_text.specs.ImageText.{plan_text, make_text, bad_image_text}
@@ -44,6 +45,10 @@ refusal_text name (SweepLimit length limit) = codes "sweep limit " ++ pair_text 
 refusal_text name NoApplication = codes "no application"
 refusal_text name NoOtaApp = codes "no ota app"
 refusal_text name NothingElse = codes "nothing else"
+refusal_text name (FuseLength length) = codes "fuse length " ++ decimal length
+refusal_text name (NotWhole slot) = codes "not whole " ++ app_text (Ota slot)
+refusal_text name (HighVersion secure) = codes "high version " ++ decimal secure
+refusal_text name (OldVersion secure level) = codes "old version " ++ pair_text secure level
 refusal_text name Empty = codes "empty"
 refusal_text name (FirstByte byte) = codes "first byte" ++ hex_number 2 byte
 

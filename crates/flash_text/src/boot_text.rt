@@ -1,9 +1,9 @@
 //! The lines of what boots, and of what was confirmed or rejected.
 
 ghost use Rattle.std.specs.Prelude.{◌≡◌, ◌++◌, OnOk};
-ghost use Rattle.flash_text.specs.BootText.{app_line, booted_lines, boots_line, confirmed_lines, image_line, rejected_lines, steps_line};
+ghost use Rattle.flash_text.specs.BootText.{app_line, booted_lines, boots_line, confirmed_lines, image_line, raised_lines, rejected_lines, steps_line};
 
-use crate::text::{put_app, put_text};
+use crate::text::{put_app, put_numbered, put_text};
 use partition_table::App;
 use pipe_ends::{Memory, put_number};
 
@@ -32,6 +32,17 @@ pub fn put_confirmed(out: &mut Vec<u8>, app: App, steps: u64) -> Result<(), Memo
 {
     put_app_of(out, "confirmed ", app)?;
     put_steps(out, steps)
+}
+
+/// Appends the lines of a confirmation that raises the level of fuses: the application, how many
+/// steps were made, and the level.
+#[tactic(auto, unfolding(crate::specs::BootText::raised_lines))]
+pub fn put_raised(out: &mut Vec<u8>, app: App, steps: u64, level: u64) -> Result<(), Memory>
+    ensures ok { OnOk result (out.new.items ≡ out.old.items ++ raised_lines app steps level) }
+{
+    put_confirmed(out, app, steps)?;
+    put_numbered(out, "fuse ", level)?;
+    put_text(out, "\n")
 }
 
 /// Appends the lines of a rejection: the application, and how many steps were made.

@@ -13,7 +13,7 @@ mod text;
 mod update_text;
 mod worker_text;
 
-pub use boot_text::{put_booted, put_boots, put_confirmed, put_rejected};
+pub use boot_text::{put_booted, put_boots, put_confirmed, put_raised, put_rejected};
 pub use image_text::{put_image, put_length};
 pub use refusal::Refusal;
 pub use sweep_text::put_sweep;

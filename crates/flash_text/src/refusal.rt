@@ -46,6 +46,14 @@ pub enum Refusal {
     NoOtaApp,
     /// Without the application of the active entry none would boot, or the one of the same slot.
     NothingElse,
+    /// The file isn't as long as the bits of fuses, which have 4 bytes.
+    FuseLength { length: u64 },
+    /// The slot that the active entry names holds no whole image.
+    NotWhole { slot: u8 },
+    /// The secure version of the application is above 32, which burnt bits can't show.
+    HighVersion { secure: u32 },
+    /// The secure version of the application is below the level of the fuses.
+    OldVersion { secure: u32, level: u32 },
     /// The image that an update wrote has no byte.
     Empty,
     /// The first byte of the image that an update wrote is not that of an application.

@@ -234,11 +234,21 @@ fn of_images<'a>() -> [(Refusal, &'a str); 18] {
 }
 
 /// The refusals of what boots, and of verdicts.
-fn of_boots<'a>() -> [(Refusal, &'a str); 3] {
+fn of_boots<'a>() -> [(Refusal, &'a str); 7] {
     [
         (Refusal::NoApplication, "no application"),
         (Refusal::NoOtaApp, "no ota app"),
         (Refusal::NothingElse, "nothing else"),
+        (Refusal::FuseLength { length: 3 }, "fuse length 3"),
+        (Refusal::NotWhole { slot: 15 }, "not whole ota_15"),
+        (Refusal::HighVersion { secure: 33 }, "high version 33"),
+        (
+            Refusal::OldVersion {
+                secure: 2,
+                level: 3,
+            },
+            "old version 2 3",
+        ),
     ]
 }
 

@@ -105,6 +105,14 @@ pub(crate) fn put_numbered(out: &mut Vec<u8>, text: &str, number: u64) -> Result
     put_number(out, number)
 }
 
+/// Appends words and an application's name.
+fn put_named(out: &mut Vec<u8>, text: &str, app: App) -> Result<(), Memory>
+    ensures ok { OnOk result (out.new.items ≡ out.old.items ++ (text.now ++ app_text app)) }
+{
+    put_text(out, text)?;
+    put_app(out, app)
+}
+
 /// Appends what a refusal says. The name is that of the absent file.
 fn put_reason(out: &mut Vec<u8>, name: &str, why: Refusal) -> Result<(), Memory>
     ensures ok { OnOk result (out.new.items ≡ out.old.items ++ refusal_text name.now why) }
@@ -133,6 +141,12 @@ fn put_reason(out: &mut Vec<u8>, name: &str, why: Refusal) -> Result<(), Memory>
         Refusal::NoApplication => put_text(out, "no application"),
         Refusal::NoOtaApp => put_text(out, "no ota app"),
         Refusal::NothingElse => put_text(out, "nothing else"),
+        Refusal::FuseLength { length } => put_numbered(out, "fuse length ", length),
+        Refusal::NotWhole { slot } => put_named(out, "not whole ", App::Ota(slot)),
+        Refusal::HighVersion { secure } => put_numbered(out, "high version ", u64::from(secure)),
+        Refusal::OldVersion { secure, level } => {
+            put_pair(out, "old version ", u64::from(secure), u64::from(level))
+        }
         Refusal::Empty => put_text(out, "empty"),
         Refusal::FirstByte { byte } => put_byte(out, "first byte", byte),
     }
