@@ -52,8 +52,8 @@ impl Answer {
         bytes: Vec<u8>,
     ) -> Result<Answer, CommandError>
         ensures exact { IsWorkedOut (Ok (record {
-            text = self.text.items;
-            puts = map named_bytes self.puts.items ++ (name.now, bytes.items) ∷ [];
+          text = self.text.items;
+          puts = map named_bytes self.puts.items ++ (name.now, bytes.items) ∷ [];
         })) result }
     {
         let Answer { text, mut puts } = self;

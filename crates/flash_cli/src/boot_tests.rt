@@ -178,7 +178,7 @@ status 1
 
 /// What a call left: the name of a flash, and the one that it was made of, with these bytes
 /// changed.
-type Left<'a> = (&'a str, &'a str, &'a [(usize, &'a [u8])]);
+pub(crate) type Left<'a> = (&'a str, &'a str, &'a [(usize, &'a [u8])]);
 
 /// The flashes that the calls leave.
 fn left_flashes<'a>() -> [Left<'a>; 7] {

@@ -103,11 +103,7 @@ fn raise_flash(flash: Vec<u8>, layout: &Layout, bits: u32) -> Result<Raised, Ref
 }
 
 /// Confirms on a device that refuses nothing, with fuses that fail no call.
-fn raise_sure<D: Nor>(
-    device: &mut D,
-    fuse: &mut SureFuse,
-    layout: &Layout,
-) -> Result<Told, Refusal>
+fn raise_sure<D: Nor>(device: &mut D, fuse: &mut SureFuse, layout: &Layout) -> Result<Told, Refusal>
     requires idle { D.running device.old ≡ None }
     requires placed { IsPlaced layout.now (D.size device.old) }
     requires small { D.size device.old < 2 ^ 32 }

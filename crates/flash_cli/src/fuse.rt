@@ -46,10 +46,7 @@ impl SureFuse {
     pub(crate) fn new(bits: u32) -> SureFuse
         ensures bits { result.bits ≡ bits }
     {
-        SureFuse {
-            bits,
-            calls: 0,
-        }
+        SureFuse { bits, calls: 0 }
     }
 }
 

@@ -1,6 +1,6 @@
 //! Rows from outside of the commands under anti-rollback: calls one after the other on one store.
 
-use crate::boot_tests::{OTADATA, STATE, is_left, put_changed};
+use crate::boot_tests::{Left, OTADATA, STATE, is_left, put_changed};
 use crate::status::Status;
 use crate::tests::{SOURCE, called};
 use crate::transcript::first_other;
@@ -71,12 +71,13 @@ fn store_of_versions<R: Threads + Wait + Sync>(rt: &R, alloc: Global) -> Result<
     }
     let newer = store.get(alloc, "C2")?;
     let highest = store.get(alloc, "C33")?;
-    for (name, changes) in [
-        ("V", &[(SLOT, newer.as_slice()), (OTADATA, WAITING.as_slice())]),
-        ("high", &[(SLOT, highest.as_slice()), (OTADATA, WAITING.as_slice())]),
-        ("broken", &[(SLOT, &[0]), (OTADATA, WAITING.as_slice())]),
+    for (name, image) in [
+        ("V", newer.as_slice()),
+        ("high", highest.as_slice()),
+        ("broken", &[0]),
     ] {
-        put_changed(alloc, &mut store, "F", name, changes)?;
+        let changes = [(SLOT, image), (OTADATA, WAITING.as_slice())];
+        put_changed(alloc, &mut store, "F", name, &changes)?;
     }
     Ok(store)
 }
@@ -151,6 +152,18 @@ usage: flash_cli choose|boot|confirm|reject|image-make|image-check|table-make|ta
 status 1
 ";
 
+/// The flashes that the calls leave.
+fn left_flashes<'a>() -> [Left<'a>; 6] {
+    [
+        ("O", "V", &[(OTADATA + STATE, &[2])]),
+        ("Q", "V", &[(OTADATA + STATE, &[3])]),
+        ("R", "V", &[(OTADATA + STATE, &[3])]),
+        ("B", "V", &[(OTADATA + STATE, &[4])]),
+        ("B2", "V", &[(OTADATA + STATE, &[4])]),
+        ("B3", "V", &[(OTADATA + STATE, &[4])]),
+    ]
+}
+
 #[test]
 fn nothing_older_than_the_fuses_show_boots(rt: HostRuntime) -> Result<(), Fail> {
     let alloc = rt.alloc();
@@ -160,14 +173,7 @@ fn nothing_older_than_the_fuses_show_boots(rt: HostRuntime) -> Result<(), Fail> 
         None,
         "carried out"
     );
-    for left in [
-        ("O", "V", &[(OTADATA + STATE, &[2])]),
-        ("Q", "V", &[(OTADATA + STATE, &[3])]),
-        ("R", "V", &[(OTADATA + STATE, &[3])]),
-        ("B", "V", &[(OTADATA + STATE, &[4])]),
-        ("B2", "V", &[(OTADATA + STATE, &[4])]),
-        ("B3", "V", &[(OTADATA + STATE, &[4])]),
-    ] {
+    for left in left_flashes() {
         let name = left.0;
         assert_eq!(rt;
             is_left(alloc, &mut store, &left)?,
@@ -177,7 +183,11 @@ fn nothing_older_than_the_fuses_show_boots(rt: HostRuntime) -> Result<(), Fail> 
     }
     for name in ["P", "P2"] {
         let fuse = store.get(alloc, name)?;
-        assert_eq!(rt; fuse.as_slice(), [3, 0, 0, 0].as_slice(), "the fuses {name}");
+        assert_eq!(rt;
+            fuse.as_slice(),
+            [3, 0, 0, 0].as_slice(),
+            "the fuses {name}"
+        );
     }
     assert_eq!(rt;
         first_other(&rt, alloc, &mut store, REFUSED)?,
@@ -185,7 +195,11 @@ fn nothing_older_than_the_fuses_show_boots(rt: HostRuntime) -> Result<(), Fail> 
         "refused"
     );
     for name in ["X", "Y"] {
-        assert_eq!(rt; store.get(alloc, name), Err(GetFault::Absent), "nothing is put");
+        assert_eq!(rt;
+            store.get(alloc, name),
+            Err(GetFault::Absent),
+            "nothing is put"
+        );
     }
     Ok(())
 }
