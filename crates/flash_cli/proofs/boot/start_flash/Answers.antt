@@ -1,16 +1,15 @@
-use Rattle.std.proofs.Common.{◌∙◌, ap, sym, None, Ok}
-use Rattle.flash_cli.proofs.BootLemmas.{boot_refused, boot_started}
+use Rattle.std.proofs.Common.{◌≡◌, Ok, Err, IfOk, IfErr, subst}
+use Rattle.flash_cli.specs.Boot.{shown_started}
+use Rattle.flash_cli.proofs.BootLemmas.{started_zero}
 use Rattle.flash_cli.proofs.boot.start_flash.Goals as goal
 
--- the device told the flash, and has what is left of it
-pub returns-in-Ok-clause-ok : goal.returns-in-Ok-clause-ok
-returns-in-Ok-clause-ok c =
-    boot_started c.args.flash.items _ c.args.layout.now _ _ c.in-Ok.booted
-    c.device_of-device.ensures.bytes c.in-Ok.ensures.exact c.bytes_of.ensures.exact
-    ∙ ap Ok (sym c.with_flash.ensures.exact)
+-- a boot is one above level 0
+pub returns-clause-ok : goal.returns-clause-ok
+returns-clause-ok c =
+    subst (λ made. IfOk c.start_above.result (λ started. made ≡ Ok (shown_started started)))
+    (started_zero c.args.flash.items c.args.layout.now) c.start_above.ensures.ok
 
--- nothing boots
-pub returns-in-Err-clause-err : goal.returns-in-Err-clause-err
-returns-in-Err-clause-err c =
-    boot_refused c.args.flash.items c.args.layout.now _ None c.in-Err.why
-    c.device_of-device.ensures.bytes c.in-Err.ensures.exact
+pub returns-clause-err : goal.returns-clause-err
+returns-clause-err c =
+    subst (λ made. IfErr c.start_above.result (λ why. made ≡ Err why))
+    (started_zero c.args.flash.items c.args.layout.now) c.start_above.ensures.err
