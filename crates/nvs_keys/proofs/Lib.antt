@@ -1,3 +1,5 @@
 -- Base first. Crates above cite these lemmas.
 pub mod MapLemmas
 pub mod SlotLemmas
+pub mod PutLemmas
+pub mod CopyLemmas
