@@ -67,9 +67,6 @@ copies_within flash from (suc n) to =
     by (is_live (given (part_of flash from 64)) (changes flash (from + 64) n)) refl
     (copies_within flash (from + 64) n)
   where
-    later : List Change
-    later = changes flash (from + 64) n
-
     by : (b : Bool) → is_live (given (part_of flash from 64)) (changes flash (from + 64) n) ≡ b
         → ((at : ℕ) → StepsWithin at (at + 64 * length (live (changes flash (from + 64) n))) (copies flash (from + 64) n at))
         → StepsWithin to (to + 64 * length (live (cons_option (given (part_of flash from 64)) (changes flash (from + 64) n))))

@@ -3,3 +3,5 @@ pub mod MapLemmas
 pub mod SlotLemmas
 pub mod PutLemmas
 pub mod CopyLemmas
+pub mod ActiveLemmas
+pub mod ChangeLemmas
