@@ -5,3 +5,6 @@ pub mod PutLemmas
 pub mod CopyLemmas
 pub mod ActiveLemmas
 pub mod ChangeLemmas
+pub mod ExchangeLemmas
+pub mod FormatLemmas
+pub mod CallLemmas

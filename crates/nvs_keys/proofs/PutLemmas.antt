@@ -151,7 +151,8 @@ used_blank flash at (suc n) inside =
 
 -- ---- a record in a free slot
 
-kept_byte : (byte : ℕ) → byte < 256 → bit_and 255 byte ≡ byte
+-- a byte with which 0xFF is ANDed stays
+pub kept_byte : (byte : ℕ) → byte < 256 → bit_and 255 byte ≡ byte
 kept_byte byte small = and_comm 255 byte ∙ and_mask byte 8 ∙ mod-eq_of_lt small
 
 -- a slot by its bytes

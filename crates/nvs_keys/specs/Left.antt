@@ -36,6 +36,11 @@ pub record ChanceIn (p : Place) (first : List ℕ) (steps : List Step) (left : L
   pub torn : Torn (after_steps first made) step left
   pub chance : KeyChance p first step left
 
+-- the keys that are left are those before a call or those behind it, unless a header matches by chance
+abbrev pub IsBeforeOrAfter : Place → List ℕ → List Step → Option Map → List ℕ → Type 0
+IsBeforeOrAfter p first steps behind left =
+    (keys_in p left ≡ keys_in p first) ⊎ ((keys_in p left ≡ behind) ⊎ ChanceIn p first steps left)
+
 -- a bank is active, with this generation
 pub record Knows (p : Place) (flash : List ℕ) (bank : Bank) (generation : ℕ) : Type 0 where
   pub place : IsPlace p (length flash)

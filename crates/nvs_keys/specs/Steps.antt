@@ -47,6 +47,14 @@ change_steps p flash bank generation c =
     else exchange_steps p flash bank generation
     ++ put_steps (slot_at p (other bank) (live_in p flash bank)) (record_bytes c)
 
+-- the bank that is active behind a change, and its generation
+abbrev pub bank_behind : Place → List ℕ → Bank → Bank
+bank_behind p flash bank = if nat_lt (used_in p flash bank) (records p) then bank else other bank
+
+abbrev pub generation_behind : Place → List ℕ → Bank → ℕ → ℕ
+generation_behind p flash bank generation =
+    if nat_lt (used_in p flash bank) (records p) then generation else generation + 1
+
 -- the format of a store: the first sector of the second bank is erased, then the first bank, which
 -- last gets the header of generation 1
 abbrev pub format_steps : Place → List Step
