@@ -15,7 +15,8 @@ use Rattle.nvs_keys.specs.declared.bank.Bank.{Bank}
 use Rattle.nvs_keys.specs.declared.bank.Bank.TheVariants.{First, Second}
 use Rattle.nvs_keys.specs.Changes.{Map, map_after, no_keys}
 use Rattle.nvs_keys.specs.Slots.{changes}
-use Rattle.nvs_keys.specs.Banks.{IsPlace, Place, active_in, active_of, bank_at, bank_changes, header_bytes, keys_in, keys_of, map_of, mark_in, mark_of, matches, other, records, records_at}
+use Rattle.nvs_keys.specs.declared.place.Place.{Place}
+use Rattle.nvs_keys.specs.Banks.{IsGeneration, IsPlace, active_in, active_of, bank_at, bank_changes, header_bytes, keys_in, keys_of, map_of, mark_in, mark_of, matches, other, records, records_at}
 use Rattle.nvs_keys.specs.Left.{Knows}
 use Rattle.nvs_keys.proofs.PutLemmas.{Erased, changes_same, part_byte}
 
@@ -73,11 +74,6 @@ mark_blank p flash bank inside erased =
 crc_small : (generation : ℕ) → crc generation < 2 ^ 32
 unfolding crc
 crc_small generation = omega arith
-
--- a generation that a header may have
-pub record IsGeneration (generation : ℕ) : Type 0 where
-  pub some : 1 ≤ generation
-  pub most : generation < 0xFFFFFFFF
 
 pub length_header : (generation : ℕ) → length (header_bytes generation) ≡ 8
 unfolding header_bytes

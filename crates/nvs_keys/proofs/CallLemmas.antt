@@ -13,7 +13,8 @@ use Rattle.crash_images.proofs.LeftLaws.{left_append, left_end, left_none, left_
 use Rattle.nvs_keys.specs.declared.bank.Bank.{Bank}
 use Rattle.nvs_keys.specs.Changes.{Change, IsChange, Map, changed, map_after}
 use Rattle.nvs_keys.specs.Slots.{record_bytes}
-use Rattle.nvs_keys.specs.Banks.{Place, bank_at, keys_in, live_in, map_of, other, records, records_at, used_in}
+use Rattle.nvs_keys.specs.declared.place.Place.{Place}
+use Rattle.nvs_keys.specs.Banks.{bank_at, keys_in, live_in, map_of, other, records, records_at, used_in}
 use Rattle.nvs_keys.specs.Steps.{bank_behind, change_steps, exchange_steps, generation_behind, joined, put_steps, slot_at}
 use Rattle.nvs_keys.specs.Left.{AreAccepted, ChanceAt, ChanceIn, HasRoom, IsAccepted, IsAfterSome, IsBeforeOrAfter, IsFull, IsUsedUp, Knows}
 use Rattle.nvs_keys.proofs.PutLemmas.{Erased, used_blank}

@@ -11,7 +11,8 @@ use Rattle.crash_images.proofs.LeftLaws.{left_end}
 use Rattle.nvs_keys.specs.declared.bank.Bank.{Bank}
 use Rattle.nvs_keys.specs.Changes.{Change, IsChange, Map, changed, map_after, no_keys}
 use Rattle.nvs_keys.specs.Slots.{changes, cons_option, given, record_bytes, slot_of}
-use Rattle.nvs_keys.specs.Banks.{IsPlace, Place, active_in, bank_at, bank_changes, keys_in, map_of, mark_in, other, records, records_at}
+use Rattle.nvs_keys.specs.declared.place.Place.{Place}
+use Rattle.nvs_keys.specs.Banks.{IsPlace, active_in, bank_at, bank_changes, keys_in, map_of, mark_in, other, records, records_at}
 use Rattle.nvs_keys.specs.Steps.{put_steps, slot_at}
 use Rattle.nvs_keys.specs.Left.{Knows}
 use Rattle.nvs_keys.proofs.SlotLemmas.{given_record, length_record, record_small}

@@ -27,13 +27,14 @@ use Rattle.flash_steps.proofs.EraseLemmas.{bytes_of_erase, inside_of_erase, one_
 use Rattle.nvs_keys.specs.declared.bank.Bank.{Bank}
 use Rattle.nvs_keys.specs.Changes.{Change, Map, live, map_after, no_keys}
 use Rattle.nvs_keys.specs.Slots.{changes}
-use Rattle.nvs_keys.specs.Banks.{IsPlace, Place, active_in, bank_at, bank_changes, header_bytes, keys_in, live_in, map_of, mark_in, mark_of, other, records, records_at}
+use Rattle.nvs_keys.specs.declared.place.Place.{Place}
+use Rattle.nvs_keys.specs.Banks.{IsGeneration, IsPlace, active_in, bank_at, bank_changes, header_bytes, keys_in, live_in, map_of, mark_in, mark_of, other, records, records_at}
 use Rattle.nvs_keys.specs.Steps.{copies, exchange_steps, header_steps, slot_at}
 use Rattle.nvs_keys.specs.Left.{ChanceIn, IsChance, KeyChance, Knows}
 use Rattle.nvs_keys.proofs.MapLemmas.{live_map}
 use Rattle.nvs_keys.proofs.PutLemmas.{Erased, erased_agrees, kept_byte, part_byte}
 use Rattle.nvs_keys.proofs.CopyLemmas.{copied, copied_blank, copies_within, steps_agree, steps_append, steps_wider}
-use Rattle.nvs_keys.proofs.ActiveLemmas.{IsGeneration, Spares, active_later, header_number, keys_active, length_header, lies, map_is, map_same, bank_same, mark_blank, mark_cases, mark_header, own_mark, records_fill, same_keys_in}
+use Rattle.nvs_keys.proofs.ActiveLemmas.{Spares, active_later, header_number, keys_active, length_header, lies, map_is, map_same, bank_same, mark_blank, mark_cases, mark_header, own_mark, records_fill, same_keys_in}
 
 -- ---- erases
 

@@ -17,12 +17,13 @@ use Rattle.nvs_keys.specs.declared.bank.Bank.{Bank}
 use Rattle.nvs_keys.specs.declared.bank.Bank.TheVariants.{First, Second}
 use Rattle.nvs_keys.specs.Changes.{Map, map_after, no_keys}
 use Rattle.nvs_keys.specs.Slots.{changes}
-use Rattle.nvs_keys.specs.Banks.{IsPlace, Place, active_in, active_of, bank_at, bank_changes, header_bytes, keys_in, keys_of, map_of, mark_in, records, records_at}
+use Rattle.nvs_keys.specs.declared.place.Place.{Place}
+use Rattle.nvs_keys.specs.Banks.{IsGeneration, IsPlace, active_in, active_of, bank_at, bank_changes, header_bytes, keys_in, keys_of, map_of, mark_in, records, records_at}
 use Rattle.nvs_keys.specs.Steps.{format_steps}
 use Rattle.nvs_keys.specs.Left.{ChanceIn, IsBeforeOrAfter, Knows}
 use Rattle.nvs_keys.proofs.PutLemmas.{Erased, changes_blank, erased_agrees}
 use Rattle.nvs_keys.proofs.CopyLemmas.{steps_agree, steps_append, steps_wider}
-use Rattle.nvs_keys.proofs.ActiveLemmas.{IsGeneration, active_alone, header_number, keys_active, length_header, map_is, mark_blank, mark_same, records_fill}
+use Rattle.nvs_keys.proofs.ActiveLemmas.{active_alone, header_number, keys_active, length_header, map_is, mark_blank, mark_same, records_fill}
 use Rattle.nvs_keys.proofs.ExchangeLemmas.{erase_first, erase_within, erased_by, header_done, sector_erased}
 
 -- no bank is active where neither header matches, and then alone

@@ -1,17 +1,13 @@
 -- The two banks of a key store: their headers, which of them is active, and the keys that it holds.
-use Rattle.std.specs.Prelude.{◌≡◌, ◌≤◌, ℕ, ◌+◌, ◌-◌, ◌*◌, ◌/◌, ◌%◌, ◌==◌, Bool, not, ◌&&◌, nat_lt, if◌then◌else◌, List, ◌++◌, length, drop, Option, None, Some}
+use Rattle.std.specs.Prelude.{◌≡◌, ◌≤◌, ◌<◌, ℕ, ◌+◌, ◌-◌, ◌*◌, ◌/◌, ◌%◌, ◌==◌, Bool, not, ◌&&◌, nat_lt, if◌then◌else◌, List, ◌++◌, length, drop, Option, None, Some}
 use Rattle.byteorder.specs.Endian.{little_bytes, little_number}
 use Rattle.nor_device.specs.Nor.{part_of}
 use Rattle.otadata.specs.Crc.{crc}
 use Rattle.nvs_keys.specs.declared.bank.Bank.{Bank}
 use Rattle.nvs_keys.specs.declared.bank.Bank.TheVariants.{First, Second}
+use Rattle.nvs_keys.specs.declared.place.Place.{Place}
 use Rattle.nvs_keys.specs.Changes.{Change, Map, live, map_after, no_keys}
 use Rattle.nvs_keys.specs.Slots.{changes, used}
-
--- where a store lies: its first address, and how many bytes each bank has
-pub record Place : Type 0 where
-  pub at : ℕ
-  pub half : ℕ
 
 -- it lies in a flash of this size, and both banks are made of sectors
 pub record IsPlace (p : Place) (size : ℕ) : Type 0 where
@@ -37,6 +33,11 @@ records p = p.half / 64 - 1
 -- where the records of a bank begin
 abbrev pub records_at : Place → Bank → ℕ
 records_at p bank = bank_at p bank + 64
+
+-- a generation that a header may have
+pub record IsGeneration (generation : ℕ) : Type 0 where
+  pub some : 1 ≤ generation
+  pub most : generation < 0xFFFFFFFF
 
 -- the header of a generation: its number, and the CRC of it
 unfoldable pub header_bytes : ℕ → List ℕ

@@ -7,7 +7,8 @@ use Rattle.nor_device.specs.Flash.{after_steps}
 use Rattle.nor_device.specs.Torn.{Torn}
 use Rattle.nvs_keys.specs.declared.bank.Bank.{Bank}
 use Rattle.nvs_keys.specs.Changes.{Change, IsChange, Map, changed, map_after}
-use Rattle.nvs_keys.specs.Banks.{IsPlace, Place, active_in, bank_at, keys_in, live_in, map_of, mark_in, records, used_in}
+use Rattle.nvs_keys.specs.declared.place.Place.{Place}
+use Rattle.nvs_keys.specs.Banks.{IsPlace, active_in, bank_at, keys_in, live_in, map_of, mark_in, records, used_in}
 use Rattle.nvs_keys.specs.Steps.{change_steps}
 
 -- a header at this address matches, and with a generation that is not known

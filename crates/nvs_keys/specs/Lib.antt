@@ -2,6 +2,7 @@
 -- of the calls, and what a loss of power leaves.
 pub mod Changes
 pub mod Slots
+pub mod Rows
 pub mod Banks
 pub mod Steps
 pub mod Left

@@ -8,7 +8,8 @@ use Rattle.nvs_keys.specs.declared.bank.Bank.{Bank}
 use Rattle.nvs_keys.specs.declared.bank.Bank.TheVariants.{First, Second}
 use Rattle.nvs_keys.specs.Changes.{Change, is_live}
 use Rattle.nvs_keys.specs.Slots.{changes, given, record_bytes}
-use Rattle.nvs_keys.specs.Banks.{Place, bank_at, header_bytes, live_in, other, records, records_at, used_in}
+use Rattle.nvs_keys.specs.declared.place.Place.{Place}
+use Rattle.nvs_keys.specs.Banks.{bank_at, header_bytes, live_in, other, records, records_at, used_in}
 
 -- a record in the slot at an address: its bytes first, and then its gate
 abbrev pub put_steps : ℕ → List ℕ → List Step

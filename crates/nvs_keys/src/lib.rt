@@ -3,6 +3,13 @@
 
 mod bank;
 mod laws;
+mod place;
 
 pub use bank::Bank;
-pub use laws::laws_of_marks;
+pub use laws::{
+    a_change_keeps_the_keys_before_or_after, a_change_puts_a_record_or_exchanges_the_banks,
+    a_format_leaves_none_or_the_empty_map, acknowledged_changes_are_kept,
+    an_exchange_of_banks_keeps_the_keys, changes_set_one_key, headers_give_their_generation,
+    live_changes_give_the_map, records_give_their_change,
+};
+pub use place::{is_store_row, Place};
