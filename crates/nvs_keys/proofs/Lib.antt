@@ -8,3 +8,6 @@ pub mod ChangeLemmas
 pub mod ExchangeLemmas
 pub mod FormatLemmas
 pub mod CallLemmas
+mod CodeLemmas
+mod StepLemmas
+pub mod HeldLemmas

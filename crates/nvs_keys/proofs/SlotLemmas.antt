@@ -7,14 +7,10 @@ use Rattle.std.proofs.lemmas.Bool.Decides.{nat_tests}
 use Rattle.std.proofs.lemmas.List.{append_assoc, drop-take, drop_at, drop_more, get_or-drop, get_or-take, length-append, length-replicate, length-take, take-take, take_at}
 use Rattle.std.proofs.lemmas.List.Elements.{All-append, All-cons, All-nil, All-replicate, All-get_or}
 use Rattle.nor_device.specs.Nor.{part_of}
-use Rattle.nvs_keys.specs.Changes.{Change, IsChange, IsValue}
+use Rattle.nvs_keys.specs.Changes.{Change, IsChange, IsValue, change_of}
 use Rattle.nvs_keys.specs.Slots.{changes, cons_option, counts, given, length_byte, padded, record_bytes, slot_of, value_bytes, value_of}
 
 -- ---- which gate gives something
-
--- a change by its parts
-abbrev pub change_of : List ℕ → Option (List ℕ) → Change
-change_of key value = record { key = key; value = value }
 
 -- what a slot gives, by its first three bytes
 abbrev pub given_by : ℕ → ℕ → ℕ → List ℕ → Option Change

@@ -17,6 +17,10 @@ pub record Change : Type 0 where
   pub key : List ℕ
   pub value : Option (List ℕ)
 
+-- a change by its parts
+abbrev pub change_of : List ℕ → Option (List ℕ) → Change
+change_of key value = record { key = key; value = value }
+
 -- a value has at most 32 bytes
 pub record IsValue (value : List ℕ) : Type 0 where
   pub most : length value ≤ 32

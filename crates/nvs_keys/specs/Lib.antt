@@ -6,3 +6,4 @@ pub mod Rows
 pub mod Banks
 pub mod Steps
 pub mod Left
+pub mod Held

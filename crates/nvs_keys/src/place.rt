@@ -1,8 +1,10 @@
 //! Where a store lies.
 
-ghost use Rattle.std.specs.Prelude.{◌≡◌, ◌/◌};
+ghost use Rattle.std.specs.Prelude.{◌≡◌, ◌<◌, ◌+◌, ◌^◌};
+ghost use Rattle.nvs_keys.specs.Banks.{bank_at};
 ghost use Rattle.nvs_keys.specs.Rows.{is_store_row, place_of};
 
+use crate::bank::Bank;
 use partition_table::Row;
 
 /// Where a store lies in a flash.
@@ -22,6 +24,17 @@ impl Place {
         Place {
             at: row.offset,
             half: row.size / 2,
+        }
+    }
+
+    /// Where a bank begins.
+    pub fn bank(self, bank: Bank) -> u32
+        requires { self.at + self.half < 2 ^ 32 }
+        ensures exact { result ≡ bank_at self bank }
+    {
+        match bank {
+            Bank::First => self.at,
+            Bank::Second => self.at + self.half,
         }
     }
 }
