@@ -1,6 +1,6 @@
 -- Which bank is active, by its header and that of the other bank; and a flash in which a bank stays.
-use Rattle.std.proofs.Common.{◌≡◌, ◌≢◌, ◌≤◌, ◌<◌, ◌⊎◌, ℕ, zero, suc, ◌+◌, ◌-◌, ◌*◌, ◌/◌, ◌%◌, ◌^◌, ◌==◌, Bool, true, false, cond, List, [], ◌∷◌, ◌++◌, length, take, drop, get_or, Option, None, Some, refl, sym, ap, ◌∙◌, subst, inl, inr, arith, length-drop, ne_eqb, eq-eqb}
-use Rattle.std.specs.Prelude.{nat_lt, replicate, slice_index}
+use Rattle.std.proofs.Common.{◌≡◌, ◌≤◌, ◌<◌, ◌⊎◌, ℕ, ◌+◌, ◌*◌, ◌%◌, ◌^◌, ◌==◌, Bool, true, false, cond, List, [], length, drop, Option, None, Some, refl, sym, ap, ◌∙◌, subst, inl, inr, arith, ne_eqb, eq-eqb}
+use Rattle.std.specs.Prelude.{nat_lt, replicate}
 use Rattle.std.proofs.lemmas.Bool.{cases_eq}
 use Rattle.std.proofs.lemmas.Bool.Decides.{nat_tests}
 use Rattle.std.proofs.lemmas.List.{append-nil, drop_at, ext_get_or, get_or-replicate, length-replicate}
@@ -14,7 +14,6 @@ use Rattle.otadata.specs.Crc.{crc}
 use Rattle.nvs_keys.specs.declared.bank.Bank.{Bank}
 use Rattle.nvs_keys.specs.declared.bank.Bank.TheVariants.{First, Second}
 use Rattle.nvs_keys.specs.Changes.{Map, map_after, no_keys}
-use Rattle.nvs_keys.specs.Slots.{changes}
 use Rattle.nvs_keys.specs.declared.place.Place.{Place}
 use Rattle.nvs_keys.specs.Banks.{IsGeneration, IsPlace, active_in, active_of, bank_at, bank_changes, header_bytes, keys_in, keys_of, map_of, mark_in, mark_of, matches, other, records, records_at}
 use Rattle.nvs_keys.specs.Left.{Knows}

@@ -1,9 +1,8 @@
 -- A change of the keys: its steps at every moment, and behind them; and changes one after the other.
-use Rattle.std.proofs.Common.{◌≡◌, ◌≤◌, ◌<◌, ◌⊎◌, ℕ, ◌+◌, ◌*◌, Bool, true, false, cond, List, [], ◌∷◌, ◌++◌, length, Option, None, Some, refl, sym, ap, ◌∙◌, subst, inl, inr, arith}
+use Rattle.std.proofs.Common.{◌≡◌, ◌≤◌, ◌<◌, ◌⊎◌, ℕ, ◌+◌, Bool, true, false, cond, List, [], ◌∷◌, ◌++◌, length, Some, refl, sym, ap, ◌∙◌, subst, inl, inr, arith}
 use Rattle.std.specs.Prelude.{nat_lt}
 use Rattle.std.specs.List.{All}
 use Rattle.std.proofs.lemmas.Bool.{cases_lt, le-ltb, lt-ltb}
-use Rattle.std.proofs.lemmas.List.{append-nil}
 use Rattle.std.proofs.lemmas.Option.{same_Some}
 use Rattle.nor_device.specs.declared.step.Step.{Step}
 use Rattle.nor_device.specs.Flash.{after_steps}
@@ -16,7 +15,7 @@ use Rattle.nvs_keys.specs.Slots.{record_bytes}
 use Rattle.nvs_keys.specs.declared.place.Place.{Place}
 use Rattle.nvs_keys.specs.Banks.{bank_at, keys_in, live_in, map_of, other, records, records_at, used_in}
 use Rattle.nvs_keys.specs.Steps.{bank_behind, change_steps, exchange_steps, generation_behind, joined, put_steps, slot_at}
-use Rattle.nvs_keys.specs.Left.{AreAccepted, ChanceAt, ChanceIn, HasRoom, IsAccepted, IsAfterSome, IsBeforeOrAfter, IsFull, IsUsedUp, Knows}
+use Rattle.nvs_keys.specs.Left.{AreAccepted, ChanceAt, ChanceIn, HasRoom, IsAccepted, IsAfterSome, IsBeforeOrAfter, Knows}
 use Rattle.nvs_keys.proofs.PutLemmas.{Erased, used_blank}
 use Rattle.nvs_keys.proofs.ActiveLemmas.{keys_active, lies, records_fill}
 use Rattle.nvs_keys.proofs.ChangeLemmas.{put_keys, put_keys_done, put_known}

@@ -1,6 +1,5 @@
 -- A record that is put into the active bank: the keys before, or the changed ones.
-use Rattle.std.proofs.Common.{◌≡◌, ◌≤◌, ◌<◌, ◌⊎◌, ℕ, ◌+◌, ◌*◌, List, [], ◌∷◌, ◌++◌, length, Option, None, Some, refl, sym, ap, ◌∙◌, subst, inl, inr, arith}
-use Rattle.std.proofs.lemmas.List.{append-nil}
+use Rattle.std.proofs.Common.{◌≡◌, ◌≤◌, ◌<◌, ◌⊎◌, ℕ, ◌+◌, ◌*◌, List, [], ◌∷◌, ◌++◌, length, Option, Some, refl, sym, ap, ◌∙◌, inl, inr, arith}
 use Rattle.nor_device.specs.declared.step.Step.{Step}
 use Rattle.nor_device.specs.Flash.{after_steps}
 use Rattle.nor_device.proofs.FlashLaws.{length-after_steps}
@@ -10,9 +9,9 @@ use Rattle.crash_images.proofs.AgreesLaws.{beside_wider, left_agrees}
 use Rattle.crash_images.proofs.LeftLaws.{left_end}
 use Rattle.nvs_keys.specs.declared.bank.Bank.{Bank}
 use Rattle.nvs_keys.specs.Changes.{Change, IsChange, Map, changed, map_after, no_keys}
-use Rattle.nvs_keys.specs.Slots.{changes, cons_option, given, record_bytes, slot_of}
+use Rattle.nvs_keys.specs.Slots.{cons_option, given, record_bytes, slot_of}
 use Rattle.nvs_keys.specs.declared.place.Place.{Place}
-use Rattle.nvs_keys.specs.Banks.{IsPlace, active_in, bank_at, bank_changes, keys_in, map_of, mark_in, other, records, records_at}
+use Rattle.nvs_keys.specs.Banks.{active_in, bank_at, bank_changes, keys_in, map_of, mark_in, other, records, records_at}
 use Rattle.nvs_keys.specs.Steps.{put_steps, slot_at}
 use Rattle.nvs_keys.specs.Left.{Knows}
 use Rattle.nvs_keys.proofs.SlotLemmas.{given_record, length_record, record_small}

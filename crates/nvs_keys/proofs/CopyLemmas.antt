@@ -1,19 +1,18 @@
 -- The copies of the live records of a bank give its live changes, in as many slots.
-use Rattle.std.proofs.Common.{◌≡◌, ◌≢◌, ◌≤◌, ◌<◌, ◌⊎◌, ℕ, zero, suc, ◌+◌, ◌-◌, ◌*◌, Bool, true, false, cond, List, [], ◌∷◌, ◌++◌, length, take, drop, get_or, Option, None, Some, refl, sym, ap, ◌∙◌, subst, inl, inr, arith, length-drop}
-use Rattle.std.specs.Prelude.{slice_index, is_some, not, ◌&&◌}
+use Rattle.std.proofs.Common.{◌≡◌, ◌≤◌, ◌<◌, ℕ, zero, suc, ◌+◌, ◌*◌, Bool, true, false, cond, List, [], ◌∷◌, ◌++◌, length, drop, Option, None, Some, refl, sym, ap, ◌∙◌, inl, inr, arith}
 use Rattle.std.specs.List.{All}
 use Rattle.std.proofs.lemmas.Bool.{both_ways}
 use Rattle.std.proofs.lemmas.List.{length-take}
 use Rattle.std.proofs.lemmas.List.Elements.{All-drop, All-take}
 use Rattle.nor_device.specs.declared.step.Step.{Step}
-use Rattle.nor_device.specs.Flash.{after_steps, applied}
+use Rattle.nor_device.specs.Flash.{after_steps}
 use Rattle.nor_device.specs.Nor.{part_of}
 use Rattle.nor_device.proofs.EraseLaws.{length-part}
 use Rattle.nor_device.proofs.FlashLaws.{after_steps_append, length-after_steps}
-use Rattle.crash_images.specs.Agrees.{Agrees, IsBeside, IsWithin, StepsWithin}
+use Rattle.crash_images.specs.Agrees.{Agrees, IsBeside, StepsWithin}
 use Rattle.crash_images.proofs.AgreesLaws.{agrees_part, left_agrees}
 use Rattle.crash_images.proofs.LeftLaws.{left_end}
-use Rattle.nvs_keys.specs.Changes.{Change, has_key, is_live, live}
+use Rattle.nvs_keys.specs.Changes.{Change, is_live, live}
 use Rattle.nvs_keys.specs.Slots.{changes, cons_option, given, slot_of}
 use Rattle.nvs_keys.specs.Steps.{copies, put_steps}
 use Rattle.nvs_keys.proofs.SlotLemmas.{given_copied}

@@ -1,16 +1,16 @@
 -- The exchange of banks: the same keys at every moment, unless a header matches by chance; behind it the
 -- other bank is active, has the live changes, and has room.
-use Rattle.std.proofs.Common.{◌≡◌, ◌≢◌, ◌≤◌, ◌<◌, ◌⊎◌, ℕ, zero, suc, ◌+◌, ◌-◌, ◌*◌, ◌/◌, ◌%◌, List, [], ◌∷◌, ◌++◌, length, take, drop, get_or, Option, None, Some, refl, sym, ap, ◌∙◌, subst, inl, inr, arith, length-drop}
-use Rattle.std.specs.Prelude.{bit_and, replicate, slice_index}
+use Rattle.std.proofs.Common.{◌≡◌, ◌≤◌, ◌<◌, ◌⊎◌, ℕ, zero, suc, ◌+◌, ◌-◌, ◌*◌, ◌/◌, ◌%◌, List, [], ◌∷◌, ◌++◌, length, take, drop, get_or, None, Some, refl, sym, ap, ◌∙◌, subst, inl, inr, arith, length-drop}
+use Rattle.std.specs.Prelude.{bit_and, replicate}
 use Rattle.std.specs.List.{All, AllByRecursion}
 use Rattle.std.specs.Int.{byte_at, bytes_low_first}
 use Rattle.std.proofs.lemmas.Bool.{cases_eq}
 use Rattle.std.proofs.lemmas.List.{append_assoc, ext_get_or, get_or-replicate, length-replicate, length-take}
 use Rattle.std.proofs.lemmas.List.Elements.{All-append, All-cons, All-get_or, All-nil}
-use Rattle.byteorder.specs.Endian.{little_bytes, little_number}
+use Rattle.byteorder.specs.Endian.{little_bytes}
 use Rattle.nor_device.specs.declared.step.Step.{Step}
 use Rattle.nor_device.specs.declared.step.Step.TheVariants.{Erase, Program}
-use Rattle.nor_device.specs.Flash.{after_steps, applied, end_of, start_of}
+use Rattle.nor_device.specs.Flash.{after_steps, applied, end_of}
 use Rattle.nor_device.specs.Nor.{part_of}
 use Rattle.nor_device.specs.Torn.{Torn}
 use Rattle.nor_device.proofs.EraseLaws.{length-part}
@@ -22,19 +22,18 @@ use Rattle.crash_images.specs.Crash.{LeftAfter}
 use Rattle.crash_images.proofs.AgreesLaws.{left_agrees, within_of_torn}
 use Rattle.crash_images.proofs.LeftLaws.{left_append, left_cases, left_end, left_none}
 use Rattle.otadata.specs.Crc.{crc}
-use Rattle.flash_steps.specs.Steps.{LiesIn, erase_steps, with_part}
+use Rattle.flash_steps.specs.Steps.{LiesIn, erase_steps}
 use Rattle.flash_steps.proofs.EraseLemmas.{bytes_of_erase, inside_of_erase, one_erase, pieces_of_erase}
 use Rattle.nvs_keys.specs.declared.bank.Bank.{Bank}
-use Rattle.nvs_keys.specs.Changes.{Change, Map, live, map_after, no_keys}
-use Rattle.nvs_keys.specs.Slots.{changes}
+use Rattle.nvs_keys.specs.Changes.{Map, live, map_after, no_keys}
 use Rattle.nvs_keys.specs.declared.place.Place.{Place}
 use Rattle.nvs_keys.specs.Banks.{IsGeneration, IsPlace, active_in, bank_at, bank_changes, header_bytes, keys_in, live_in, map_of, mark_in, mark_of, other, records, records_at}
-use Rattle.nvs_keys.specs.Steps.{copies, exchange_steps, header_steps, slot_at}
-use Rattle.nvs_keys.specs.Left.{ChanceIn, IsChance, KeyChance, Knows}
+use Rattle.nvs_keys.specs.Steps.{copies, exchange_steps, slot_at}
+use Rattle.nvs_keys.specs.Left.{ChanceIn, Knows}
 use Rattle.nvs_keys.proofs.MapLemmas.{live_map}
 use Rattle.nvs_keys.proofs.PutLemmas.{Erased, erased_agrees, kept_byte, part_byte}
-use Rattle.nvs_keys.proofs.CopyLemmas.{copied, copied_blank, copies_within, steps_agree, steps_append, steps_wider}
-use Rattle.nvs_keys.proofs.ActiveLemmas.{Spares, active_later, header_number, keys_active, length_header, lies, map_is, map_same, bank_same, mark_blank, mark_cases, mark_header, own_mark, records_fill, same_keys_in}
+use Rattle.nvs_keys.proofs.CopyLemmas.{copied, copied_blank, copies_within, steps_append, steps_wider}
+use Rattle.nvs_keys.proofs.ActiveLemmas.{Spares, active_later, header_number, keys_active, length_header, lies, map_is, bank_same, mark_blank, mark_cases, mark_header, own_mark, records_fill, same_keys_in}
 
 -- ---- erases
 

@@ -1,5 +1,5 @@
 -- The format of a store: none, the empty map, or a header that matches by chance.
-use Rattle.std.proofs.Common.{◌≡◌, ◌≤◌, ◌<◌, ◌⊎◌, ℕ, ◌+◌, ◌-◌, ◌*◌, ◌/◌, ◌%◌, List, [], ◌∷◌, ◌++◌, length, get_or, Option, None, Some, refl, sym, ap, ◌∙◌, subst, inl, inr, arith}
+use Rattle.std.proofs.Common.{◌≡◌, ◌⊎◌, ℕ, ◌+◌, ◌-◌, ◌*◌, ◌/◌, List, [], ◌∷◌, ◌++◌, length, get_or, Option, None, Some, refl, sym, ap, ◌∙◌, subst, inl, inr, arith}
 use Rattle.std.specs.Prelude.{Bool, true, false, cond, nat_lt}
 use Rattle.std.proofs.lemmas.Bool.{cases_eq}
 use Rattle.nor_device.specs.declared.step.Step.{Step}
@@ -13,16 +13,14 @@ use Rattle.crash_images.specs.Crash.{LeftAfter}
 use Rattle.crash_images.proofs.AgreesLaws.{left_agrees, within_of_torn}
 use Rattle.crash_images.proofs.LeftLaws.{left_append, left_cases, left_end, left_none}
 use Rattle.flash_steps.specs.Steps.{erase_steps}
-use Rattle.nvs_keys.specs.declared.bank.Bank.{Bank}
 use Rattle.nvs_keys.specs.declared.bank.Bank.TheVariants.{First, Second}
 use Rattle.nvs_keys.specs.Changes.{Map, map_after, no_keys}
-use Rattle.nvs_keys.specs.Slots.{changes}
 use Rattle.nvs_keys.specs.declared.place.Place.{Place}
-use Rattle.nvs_keys.specs.Banks.{IsGeneration, IsPlace, active_in, active_of, bank_at, bank_changes, header_bytes, keys_in, keys_of, map_of, mark_in, records, records_at}
+use Rattle.nvs_keys.specs.Banks.{IsGeneration, IsPlace, active_in, active_of, bank_at, header_bytes, keys_in, keys_of, map_of, mark_in, records}
 use Rattle.nvs_keys.specs.Steps.{format_steps}
 use Rattle.nvs_keys.specs.Left.{ChanceIn, IsBeforeOrAfter, Knows}
 use Rattle.nvs_keys.proofs.PutLemmas.{Erased, changes_blank, erased_agrees}
-use Rattle.nvs_keys.proofs.CopyLemmas.{steps_agree, steps_append, steps_wider}
+use Rattle.nvs_keys.proofs.CopyLemmas.{steps_append, steps_wider}
 use Rattle.nvs_keys.proofs.ActiveLemmas.{active_alone, header_number, keys_active, length_header, map_is, mark_blank, mark_same, records_fill}
 use Rattle.nvs_keys.proofs.ExchangeLemmas.{erase_first, erase_within, erased_by, header_done, sector_erased}
 

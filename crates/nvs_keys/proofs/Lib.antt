@@ -10,4 +10,3 @@ pub mod FormatLemmas
 pub mod CallLemmas
 mod CodeLemmas
 mod StepLemmas
-pub mod HeldLemmas

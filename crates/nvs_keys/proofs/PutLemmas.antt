@@ -1,21 +1,21 @@
 -- A record that is put into a free slot, at every moment; and what free slots give.
-use Rattle.std.proofs.Common.{◌≡◌, ◌≢◌, ◌≤◌, ◌<◌, ◌⊎◌, ℕ, zero, suc, ◌+◌, ◌-◌, ◌*◌, Bool, true, false, ◌&&◌, ◌==◌, cond, List, [], ◌∷◌, ◌++◌, length, take, drop, get_or, Option, None, Some, refl, sym, ap, ◌∙◌, subst, inl, inr, arith, length-drop, length-append}
+use Rattle.std.proofs.Common.{◌≡◌, ◌≤◌, ◌<◌, ◌⊎◌, ℕ, zero, suc, ◌+◌, ◌-◌, ◌*◌, Bool, true, false, ◌==◌, cond, List, [], ◌∷◌, ◌++◌, length, drop, get_or, Option, None, Some, refl, sym, ap, ◌∙◌, subst, inl, inr, arith, length-append}
 use Rattle.std.specs.Prelude.{bit_and, replicate, slice_index}
 use Rattle.std.specs.List.{All}
 use Rattle.std.proofs.Math.Nat.{mod-eq_of_lt}
 use Rattle.std.proofs.lemmas.Bool.{and_parts, cases_eq, cases_lt, eqb-true}
 use Rattle.std.proofs.lemmas.Nat.{and_comm, and_mask}
-use Rattle.std.proofs.lemmas.List.{append-nil, append_assoc, ext_get_or, get_or-append_right, get_or-drop, get_or-replicate, get_or-take, get_or_append_left, length-replicate, length-take}
+use Rattle.std.proofs.lemmas.List.{append-nil, ext_get_or, get_or-append_right, get_or-drop, get_or-replicate, get_or-take, get_or_append_left}
 use Rattle.std.proofs.lemmas.List.Elements.{All-get_or}
 use Rattle.nor_device.specs.declared.step.Step.{Step}
 use Rattle.nor_device.specs.declared.step.Step.TheVariants.{Program}
-use Rattle.nor_device.specs.Flash.{after_steps, applied, end_of, start_of}
+use Rattle.nor_device.specs.Flash.{after_steps, applied}
 use Rattle.nor_device.specs.Nor.{part_of}
 use Rattle.nor_device.specs.Torn.{Torn}
 use Rattle.nor_device.proofs.EraseLaws.{length-part}
 use Rattle.nor_device.proofs.FlashLaws.{byte_after_inside, byte_after_outside, byte_applied, length_applied}
 use Rattle.nor_device.proofs.TornLaws.{torn_applied}
-use Rattle.crash_images.specs.Agrees.{Agrees, Covers, IsBeside, StepsWithin}
+use Rattle.crash_images.specs.Agrees.{Agrees, IsBeside, StepsWithin}
 use Rattle.crash_images.specs.Crash.{LeftAfter}
 use Rattle.crash_images.proofs.AgreesLaws.{agrees_part, left_agrees}
 use Rattle.crash_images.proofs.LeftLaws.{left_cases, left_end, left_none}
@@ -184,7 +184,6 @@ slot_is left at bytes inside size front back =
 module _ (flash : List ℕ) (at : ℕ) (bytes : List ℕ) (inside : at + 64 ≤ length flash)
     (size : length bytes ≡ 51) (small : All (λ b. b < 256) bytes)
     (erased : Erased at (at + 64) flash) where
-
   -- the flash behind the program of the record
   abbrev recorded : List ℕ
   recorded = applied flash (Program (at + 1) bytes)

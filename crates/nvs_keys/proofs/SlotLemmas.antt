@@ -1,14 +1,14 @@
 -- What a slot gives: nothing behind a gate that is not zero, and else what its first 52 bytes say.
-use Rattle.std.proofs.Common.{◌≡◌, ◌≢◌, ◌≤◌, ◌<◌, ◌⊎◌, ℕ, zero, suc, ◌+◌, ◌-◌, ◌*◌, Bool, true, false, ◌&&◌, ◌||◌, ◌==◌, cond, List, [], ◌∷◌, ◌++◌, length, take, drop, get_or, Option, None, Some, refl, sym, ap, ◌∙◌, subst, inl, inr, arith, length-drop, ne_eqb}
+use Rattle.std.proofs.Common.{◌≡◌, ◌≢◌, ◌≤◌, ◌<◌, ◌⊎◌, ℕ, ◌+◌, ◌-◌, Bool, true, false, ◌&&◌, ◌||◌, ◌==◌, cond, List, [], ◌∷◌, ◌++◌, length, take, drop, get_or, Option, None, Some, refl, sym, ap, ◌∙◌, inl, inr, arith, length-drop, ne_eqb}
 use Rattle.std.specs.Prelude.{nat_le, replicate, slice_index, IfSome}
 use Rattle.std.specs.List.{All}
-use Rattle.std.proofs.lemmas.Bool.{cases_Bool, cases_eq, cases_lt}
+use Rattle.std.proofs.lemmas.Bool.{cases_eq}
 use Rattle.std.proofs.lemmas.Bool.Decides.{nat_tests}
-use Rattle.std.proofs.lemmas.List.{append_assoc, drop-take, drop_at, drop_more, get_or-drop, get_or-take, length-append, length-replicate, length-take, take-take, take_at}
-use Rattle.std.proofs.lemmas.List.Elements.{All-append, All-cons, All-nil, All-replicate, All-get_or}
+use Rattle.std.proofs.lemmas.List.{append_assoc, drop-take, drop_at, drop_more, get_or-take, length-append, length-replicate, length-take, take-take, take_at}
+use Rattle.std.proofs.lemmas.List.Elements.{All-append, All-cons, All-nil, All-replicate}
 use Rattle.nor_device.specs.Nor.{part_of}
 use Rattle.nvs_keys.specs.Changes.{Change, IsChange, IsValue, change_of}
-use Rattle.nvs_keys.specs.Slots.{changes, cons_option, counts, given, length_byte, padded, record_bytes, slot_of, value_bytes, value_of}
+use Rattle.nvs_keys.specs.Slots.{counts, given, length_byte, padded, record_bytes, slot_of, value_bytes, value_of}
 
 -- ---- which gate gives something
 

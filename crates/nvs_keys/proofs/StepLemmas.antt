@@ -1,14 +1,14 @@
 -- The steps of a call by their numbers.
-use Rattle.std.proofs.Common.{◌≡◌, ◌≤◌, ◌<◌, ℕ, zero, suc, ◌+◌, ◌-◌, ◌/◌, Bool, true, false, cond, List, [], ◌∷◌, ◌++◌, length, slice_get, Option, None, Some, refl, sym, ap, ◌∙◌, subst, arith}
+use Rattle.std.proofs.Common.{◌≡◌, ◌≤◌, ◌<◌, ℕ, zero, suc, ◌+◌, ◌-◌, ◌/◌, List, [], ◌∷◌, ◌++◌, length, slice_get, Option, None, Some, refl, ap, ◌∙◌, arith}
 use Rattle.std.specs.Prelude.{IsNone, IsSome, ◌↔◌}
 use Rattle.std.proofs.lemmas.Option.{slice_get_past}
 use Rattle.nor_device.specs.declared.step.Step.{Step}
 use Rattle.nor_device.specs.declared.step.Step.TheVariants.{Erase, Program}
 use Rattle.flash_steps.specs.Steps.{erase_steps, erases}
 use Rattle.flash_steps.proofs.EraseLemmas.{count_of_erase}
-use Rattle.nvs_keys.specs.declared.bank.Bank.TheVariants.{First, Second}
+use Rattle.nvs_keys.specs.declared.bank.Bank.TheVariants.{First}
 use Rattle.nvs_keys.specs.declared.place.Place.{Place}
-use Rattle.nvs_keys.specs.Banks.{bank_at, header_bytes}
+use Rattle.nvs_keys.specs.Banks.{header_bytes}
 use Rattle.nvs_keys.specs.Steps.{format_steps, header_steps}
 
 -- ---- items by their places

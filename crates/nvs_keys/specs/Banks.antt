@@ -1,5 +1,5 @@
 -- The two banks of a key store: their headers, which of them is active, and the keys that it holds.
-use Rattle.std.specs.Prelude.{◌≡◌, ◌≤◌, ◌<◌, ℕ, ◌+◌, ◌-◌, ◌*◌, ◌/◌, ◌%◌, ◌==◌, Bool, not, ◌&&◌, nat_lt, if◌then◌else◌, List, ◌++◌, length, drop, Option, None, Some}
+use Rattle.std.specs.Prelude.{◌≡◌, ◌≤◌, ◌<◌, ℕ, ◌+◌, ◌-◌, ◌/◌, ◌%◌, ◌==◌, Bool, not, ◌&&◌, nat_lt, if◌then◌else◌, List, ◌++◌, length, drop, Option, None, Some}
 use Rattle.byteorder.specs.Endian.{little_bytes, little_number}
 use Rattle.nor_device.specs.Nor.{part_of}
 use Rattle.otadata.specs.Crc.{crc}

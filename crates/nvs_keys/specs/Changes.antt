@@ -1,5 +1,5 @@
 -- Changes of keys, and the map that they make. A key and a value are lists of bytes.
-use Rattle.std.specs.Prelude.{◌≤◌, ◌<◌, ℕ, Bool, true, false, not, ◌&&◌, ◌||◌, if◌then◌else◌, List, [], ◌∷◌, length, Option, None, Some, IfSome, is_some, All}
+use Rattle.std.specs.Prelude.{◌≤◌, ◌<◌, ℕ, Bool, false, not, ◌&&◌, ◌||◌, if◌then◌else◌, List, [], ◌∷◌, length, Option, None, Some, IfSome, is_some, All}
 use Rattle.std.specs.Ordering.{eq_by_cmp, nat_cmp}
 use Rattle.std.specs.Cmp.Lexicographic.{slice_cmp}
 use Rattle.std.specs.FinMap as finite

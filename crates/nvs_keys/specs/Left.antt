@@ -1,14 +1,14 @@
 -- What a loss of power leaves of a key store.
-use Rattle.std.specs.Prelude.{◌≡◌, ◌≢◌, ◌≤◌, ◌<◌, ◌⊎◌, ℕ, ◌*◌, List, [], ◌∷◌, ◌++◌, length, Option, None, Some}
+use Rattle.std.specs.Prelude.{◌≡◌, ◌≤◌, ◌<◌, ◌⊎◌, ℕ, ◌*◌, List, [], ◌∷◌, ◌++◌, length, Option, Some}
 use Rattle.byteorder.specs.Endian.{little_number}
 use Rattle.nor_device.specs.declared.step.Step.{Step}
 use Rattle.nor_device.specs.declared.step.Step.TheVariants.{Erase, Program, Block}
 use Rattle.nor_device.specs.Flash.{after_steps}
 use Rattle.nor_device.specs.Torn.{Torn}
 use Rattle.nvs_keys.specs.declared.bank.Bank.{Bank}
-use Rattle.nvs_keys.specs.Changes.{Change, IsChange, Map, changed, map_after}
+use Rattle.nvs_keys.specs.Changes.{Change, IsChange, Map, map_after}
 use Rattle.nvs_keys.specs.declared.place.Place.{Place}
-use Rattle.nvs_keys.specs.Banks.{IsPlace, active_in, bank_at, keys_in, live_in, map_of, mark_in, records, used_in}
+use Rattle.nvs_keys.specs.Banks.{IsPlace, active_in, bank_at, keys_in, live_in, mark_in, records, used_in}
 use Rattle.nvs_keys.specs.Steps.{change_steps}
 
 -- a header at this address matches, and with a generation that is not known

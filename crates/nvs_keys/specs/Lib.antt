@@ -6,4 +6,3 @@ pub mod Rows
 pub mod Banks
 pub mod Steps
 pub mod Left
-pub mod Held

@@ -1,5 +1,5 @@
 -- Which rows of a partition table may have a key store.
-use Rattle.std.specs.Prelude.{ℕ, ◌/◌, ◌%◌, ◌==◌, Bool, not, ◌&&◌, nat_le}
+use Rattle.std.specs.Prelude.{◌/◌, ◌%◌, ◌==◌, Bool, not, ◌&&◌, nat_le}
 use Rattle.partition_table.specs.declared.row.Row.{Row}
 use Rattle.nvs_keys.specs.declared.place.Place.{Place}
 

@@ -10,9 +10,9 @@
 //! | 20 | 32 | the value, 0xFF behind it |
 //! | 52 | 12 | 0xFF |
 
-ghost use Rattle.std.specs.Prelude.{◌≡◌, ◌≤◌, ◌+◌, [], ◌∷◌, ◌++◌, length, MatchOption, None, Some, replicate};
+ghost use Rattle.std.specs.Prelude.{◌≡◌, ◌≤◌, ◌+◌, [], ◌∷◌, ◌++◌, length, None, Some, replicate};
 ghost use Rattle.nvs_keys.specs.Changes.{change_of};
-ghost use Rattle.nvs_keys.specs.Slots.{counts, given, padded, record_bytes};
+ghost use Rattle.nvs_keys.specs.Slots.{padded, record_bytes};
 
 use arrayvec::ArrayVec;
 
@@ -21,47 +21,6 @@ const REMOVED: u8 = 0xFF;
 
 /// Bytes as they are read behind a key or a value.
 const FILL: [u8; 32] = [0xFF; 32];
-
-/// What a record gives: a key, and its value. With no value the key is removed.
-#[derive(Clone, Copy, Debug, PartialEq, Eq)]
-pub struct Record<'a> {
-    /// 1 to 16 bytes.
-    pub key: &'a [u8],
-    /// Up to 32 bytes.
-    pub value: Option<&'a [u8]>,
-}
-
-/// Whether a record counts, by its gate and its two lengths.
-#[tactic(auto, unfolding(crate::specs::Slots::counts))]
-fn counts(gate: u8, key: u8, value: u8) -> bool
-    ensures exact { result ≡ counts gate key value }
-{
-    gate == 0 && (1 <= key && key <= 16) && (value <= 32 || value == REMOVED)
-}
-
-/// What a slot gives, where its record counts.
-#[tactic(auto, unfolding(crate::specs::Slots::given))]
-pub fn record_at(slot: &[u8]) -> Option<Record<'_>>
-    requires { 64 ≤ length slot.now }
-    ensures exact { MatchOption result (given slot.now ≡ None)
-        (λ record. MatchOption record.value
-        (given slot.now ≡ Some (change_of record.key.now None))
-        (λ value. given slot.now ≡ Some (change_of record.key.now (Some value.now)))) }
-{
-    if !counts(slot[0], slot[1], slot[2]) {
-        return None;
-    }
-    let key = &slot[4..][..usize::from(slot[1])];
-    if slot[2] == REMOVED {
-        Some(Record { key, value: None })
-    } else {
-        let value = &slot[20..][..usize::from(slot[2])];
-        Some(Record {
-            key,
-            value: Some(value),
-        })
-    }
-}
 
 /// So many bytes 0xFF.
 #[tactic(auto, using(crate::proofs::CodeLemmas::filling))]

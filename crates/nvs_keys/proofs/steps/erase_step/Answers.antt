@@ -1,4 +1,4 @@
-use Rattle.std.proofs.Common.{◌≡◌, ◌≤◌, ◌<◌, ◌/◌, sym, arith}
+use Rattle.std.proofs.Common.{◌≤◌, ◌<◌, ◌/◌, sym, arith}
 use Rattle.nvs_keys.specs.Banks.{bank_at}
 use Rattle.nvs_keys.proofs.StepLemmas.{erase_past, erase_there}
 use Rattle.nvs_keys.proofs.steps.erase_step.Goals as goal

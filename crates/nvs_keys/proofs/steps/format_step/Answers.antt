@@ -9,7 +9,7 @@ pub program-requires : goal.program-requires
 program-requires c =
     let header : c.as_slice.result.now ≡ header_bytes 1 = cc in
     let size : length c.as_slice.result.now ≡ 8 = ap length header ∙ length_header 1 in
-    (omega arith, omega arith)
+    record { page = (omega arith, omega arith) }
 
 -- an erase of the first bank
 pub returns-then-number-sectors : goal.returns-then-number-sectors
