@@ -45,24 +45,24 @@ in_state_same es y k is = at (cases_Bool (k == y))
     at (inr p) = rw p refl
 
 -- where the active entry is VALID, or has been made so, its application boots
-left_confirmed : (layout : Places) (flash : List ℕ) (y : ℕ) (image : List ℕ) (done : Bool)
+left_confirmed : (which : List ℕ → Option (List ℕ)) (layout : Places) (flash : List ℕ) (y : ℕ) (image : List ℕ) (done : Bool)
     → IsPlaced layout (length flash)
     → y < 2 → IsStored (entries_in layout flash y)
     → ((entries_in layout flash y).state == 2) ≡ done
     → active_of (entries_in layout flash 0) (entries_in layout flash 1) ≡ Some y
-    → images_in held layout flash (slot_app layout (entries_in layout flash y)) ≡ Some image
-    → boots_in held layout (after_steps flash
+    → images_in which layout flash (slot_app layout (entries_in layout flash y)) ≡ Some image
+    → boots_in which layout (after_steps flash
     (rewrites layout.otadata (writes_of (one_of {E = NoOtaApp}
     (Ok (if done then None else Some (restated 2 y (entries_in layout flash y))))))))
     ≡ Some (slot_app layout (entries_in layout flash y), image)
-left_confirmed layout flash y image true placed two stored is active holds =
+left_confirmed which layout flash y image true placed two stored is active holds =
     let es = entries_in layout flash in
     let valid : (es y).state ≡ 2 = grind (arith, nat_tests) in
-    boots_same layout (images_in held layout flash) (in_state 2 y es) es
+    boots_same layout (images_in which layout flash) (in_state 2 y es) es
     (in_state_same es y 0 valid)
     (in_state_same es y 1 valid)
-    ∙ confirmed_boots layout (images_in held layout flash) es y image two active holds
-left_confirmed layout flash y image false placed two stored is active holds =
+    ∙ confirmed_boots layout (images_in which layout flash) es y image two active holds
+left_confirmed which layout flash y image false placed two stored is active holds =
     let es = entries_in layout flash in
     let write = restated 2 y (es y) in
     let left = after_steps flash (rewrite layout.otadata write) in
@@ -76,28 +76,28 @@ left_confirmed layout flash y image false placed two stored is active holds =
       };
       label = stored.label;
     } in
-    let images : images_in held layout left ≡ images_in held layout flash =
-    left_images held layout (length flash) flash left (write ∷ []) placed
+    let images : images_in which layout left ≡ images_in which layout flash =
+    left_images which layout (length flash) flash left (write ∷ []) placed
     ((two, omega (arith, stored.sized.label)), tt)
     (left_end flash (rewrites layout.otadata (write ∷ []))) in
     ap (λ h. boots layout h (entries_in layout left)) images
-    ∙ boots_same layout (images_in held layout flash) (in_state 2 y es) (entries_in layout left)
+    ∙ boots_same layout (images_in which layout flash) (in_state 2 y es) (entries_in layout left)
     (entries_changed layout flash write placed two written 0 (omega arith))
     (entries_changed layout flash write placed two written 1 (omega arith))
-    ∙ confirmed_boots layout (images_in held layout flash) es y image two active holds
+    ∙ confirmed_boots layout (images_in which layout flash) es y image two active holds
 
--- what is told of a confirmation tells which application boots now
-confirmed_told : (layout : Places) (flash : List ℕ) (told : Told) → IsPlaced layout (length flash)
+-- what is told of a confirmation tells which application boots now, whatever counts as an image
+pub confirmed_told : (which : List ℕ → Option (List ℕ)) (layout : Places) (flash : List ℕ) (told : Told) → IsPlaced layout (length flash)
     → IsStored (entries_in layout flash 0) → IsStored (entries_in layout flash 1)
     → Answers layout.otadata (named_of layout (entries_in layout flash 0)
     (entries_in layout flash 1))
     (confirmation (entries_in layout flash)) (Ok told)
-    → (image : List ℕ) → images_in held layout flash (Ota told.slot) ≡ Some image
-    → boots_in held layout (after_steps flash
+    → (image : List ℕ) → images_in which layout flash (Ota told.slot) ≡ Some image
+    → boots_in which layout (after_steps flash
     (rewrites layout.otadata (writes_of (confirmation (entries_in layout flash)))))
     ≡ Some (Ota told.slot, image)
 unfolding confirm_of named_of
-confirmed_told layout flash told placed first second answers image holds =
+confirmed_told which layout flash told placed first second answers image holds =
     at (active_of (es 0) (es 1)) refl (active-lt (es 0) (es 1)) answers
   where
     es : ℕ → Entry
@@ -107,19 +107,19 @@ confirmed_told layout flash told placed first second answers image holds =
         → IsStored (entries_in layout flash y)
         → active_of (entries_in layout flash 0) (entries_in layout flash 1) ≡ Some y
         → (slot_app layout e ≡ Ota told.slot)
-        → boots_in held layout (after_steps flash
+        → boots_in which layout (after_steps flash
         (rewrites layout.otadata (writes_of (one_of {E = NoOtaApp}
         (Ok (if e.state == 2 then None else Some (restated 2 y e)))))))
         ≡ Some (Ota told.slot, image)
     by y e two is stored active named =
         let app : slot_app layout (entries_in layout flash y) ≡ Ota told.slot =
         ap (slot_app layout) (sym is) ∙ named in
-        ap (λ x. boots_in held layout
+        ap (λ x. boots_in which layout
         (after_steps flash (rewrites layout.otadata (writes_of (one_of {E = NoOtaApp}
         (Ok (if x.state == 2 then None else Some (restated 2 y x)))))))) is
-        ∙ left_confirmed layout flash y image ((entries_in layout flash y).state == 2) placed two
+        ∙ left_confirmed which layout flash y image ((entries_in layout flash y).state == 2) placed two
         stored refl active
-        (ap (images_in held layout flash) app ∙ holds)
+        (ap (images_in which layout flash) app ∙ holds)
         ∙ ap (λ a. Some (a, image)) app
 
     slot : {E : Type 0} (named : App) (r : Result (List Rewrite) E) → Answers layout.otadata named r
@@ -135,7 +135,7 @@ confirmed_told layout flash told placed first second answers image holds =
         (entries_in layout flash 1) active)
         (one_of (confirm_by (sectors (entries_in layout flash 0) (entries_in layout flash 1))
         active)) (Ok told)
-        → boots_in held layout (after_steps flash (rewrites layout.otadata (writes_of
+        → boots_in which layout (after_steps flash (rewrites layout.otadata (writes_of
         (one_of (confirm_by (sectors (entries_in layout flash 0) (entries_in layout flash 1))
         active)))))
         ≡ Some (Ota told.slot, image)
@@ -185,7 +185,7 @@ told_confirmed layout size e0 e1 (Some flash) new (Ok (Ok told)) placed sized fi
     λ image holds. (
       left,
       is,
-      confirmed_told layout flash told
+      confirmed_told held layout flash told
           (subst (IsPlaced layout) (sym (sized flash refl)) placed)
           (subst (λ a. IsStored a) first one) (subst (λ b. IsStored b) second two) here image holds,
     )

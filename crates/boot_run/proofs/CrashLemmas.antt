@@ -15,6 +15,7 @@ use Rattle.rollback.proofs.ChanceLemmas.{verdict-or_chance}
 use Rattle.rollback.proofs.PairLemmas.{still_boots}
 use Rattle.image_verify.specs.Held.{held}
 use Rattle.boot_run.specs.Rewriting.{AreShort, rewrite, rewrites}
+use Rattle.boot_run.specs.Above.{StillBootsAbove, held_above}
 use Rattle.boot_run.specs.Crashed.{IsRestated, LeavesVerdict, LeavesVerdicts, IsLeftByVerdicts, StillBoots}
 use Rattle.boot_run.proofs.FrameLemmas.{left_images, left_other}
 use Rattle.boot_run.proofs.WritesLemmas.{AreRewrites}
@@ -108,17 +109,23 @@ left_verdicts layout size flash left (write ∷ writes) placed are after =
           (after_steps flash (rewrite layout.otadata write)) left writes placed are.1 later)
     ]
 
--- where an application boots, one boots at every moment of rewrites
+-- where an application boots, one boots at every moment of rewrites, whatever counts as an image
+pub left_boots_by : (holds : List ℕ → Option (List ℕ)) (layout : Places) (size : ℕ)
+    (flash left : List ℕ) (writes : List Rewrite) → IsPlaced layout size
+    → AreShort writes → LeftAfter flash (rewrites layout.otadata writes) left
+    → boots_in holds layout flash ≢ None → boots_in holds layout left ≢ None
+left_boots_by holds layout size flash left writes placed short after some =
+    subst (λ h. boots layout h (entries_in layout left) ≢ None)
+    (sym (left_images holds layout size flash left writes placed short after))
+    (still_boots layout (images_in holds layout flash) (entries_in layout flash)
+    (entries_in layout left)
+    (images_are_placed holds layout flash) some)
+
 pub left_boots : (layout : Places) (size : ℕ) (flash left : List ℕ) (writes : List Rewrite)
     → IsPlaced layout size
     → AreShort writes → LeftAfter flash (rewrites layout.otadata writes) left
     → boots_in held layout flash ≢ None → boots_in held layout left ≢ None
-left_boots layout size flash left writes placed short after some =
-    subst (λ h. boots layout h (entries_in layout left) ≢ None)
-    (sym (left_images held layout size flash left writes placed short after))
-    (still_boots layout (images_in held layout flash) (entries_in layout flash)
-    (entries_in layout left)
-    (images_are_placed held layout flash) some)
+left_boots = left_boots_by held
 
 -- ---- the same of a device that tells its bytes
 
@@ -144,3 +151,16 @@ pub told_boots : (layout : Places) (size : ℕ) (writes : List Rewrite) (old new
 told_boots layout size writes None new placed short left = tt
 told_boots layout size writes (Some flash) new placed short left =
     λ some. (left.0, left.1, left_boots layout size flash left.0 writes placed short left.2 some)
+
+-- above a level too
+pub told_boots_above : (level : ℕ) (layout : Places) (size : ℕ) (writes : List Rewrite)
+    (old new : Option (List ℕ))
+    → IsPlaced layout size → AreShort writes → IsLeftOf (rewrites layout.otadata writes) old new
+    → StillBootsAbove level level layout old new
+told_boots_above level layout size writes None new placed short left = tt
+told_boots_above level layout size writes (Some flash) new placed short left =
+    λ some. (
+      left.0,
+      left.1,
+      left_boots_by (held_above level) layout size flash left.0 writes placed short left.2 some,
+    )

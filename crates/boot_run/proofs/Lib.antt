@@ -1,4 +1,5 @@
 -- Base first. Crates above cite these lemmas.
+pub mod AboveLemmas
 pub mod MadeLemmas
 pub mod RewritingLemmas
 pub mod ReadLemmas
@@ -14,3 +15,5 @@ pub mod ConfirmedLemmas
 pub mod KeptLemmas
 pub mod SettleLemmas
 pub mod ToldPairLemmas
+pub mod RaisedLemmas
+pub mod LevelLemmas

@@ -54,30 +54,30 @@ length-rewrites otadata (write ∷ writes) =
     omega (arith, length-append (rewrite otadata write) (rewrites otadata writes))
 
 -- of a device that tells its bytes
-pub told_boot : (layout : Places) (size otadata : ℕ) (es : ℕ → Entry) (made writes : List Rewrite)
+pub told_boot : (holds : List ℕ → Option (List ℕ)) (layout : Places) (size otadata : ℕ) (es : ℕ → Entry) (made writes : List Rewrite)
     (steps : ℕ)
     (old mid : Option (List ℕ)) (started : Option (App × ImageInfo)) → IsPlaced layout size
     → made ≡ boot_writes es → writes ≡ boot_writes es → AreShort (boot_writes es)
     → otadata ≡ layout.otadata → IsAfterAll (rewrites otadata made) old mid
-    → IfSome mid (λ flash. IsFirst (images_in held layout flash)
+    → IfSome mid (λ flash. IsFirst (images_in holds layout flash)
     (candidates layout (names layout (written writes es))) started)
-    → IfSome old (λ flash. IsBoot layout (images_in held layout flash) es (booted_of steps started))
-told_boot layout size otadata es made writes steps None mid started placed all_made is short place
+    → IfSome old (λ flash. IsBoot layout (images_in holds layout flash) es (booted_of steps started))
+told_boot holds layout size otadata es made writes steps None mid started placed all_made is short place
     all first = tt
-told_boot layout size otadata es made writes steps (Some flash) mid started placed all_made is short
+told_boot holds layout size otadata es made writes steps (Some flash) mid started placed all_made is short
     place all first =
     let all_there = subst (λ o. mid ≡ Some (after_steps flash (rewrites o made))) place all in
-    let on = subst (λ (m : Option (List ℕ)). IfSome m (λ f. IsFirst (images_in held layout f)
+    let on = subst (λ (m : Option (List ℕ)). IfSome m (λ f. IsFirst (images_in holds layout f)
     (candidates layout (names layout (written writes es))) started)) all_there first in
     let left = after_steps flash (rewrites layout.otadata made) in
-    let images : images_in held layout left ≡ images_in held layout flash =
-    left_images held layout size flash left made placed (subst AreShort (sym all_made) short)
+    let images : images_in holds layout left ≡ images_in holds layout flash =
+    left_images holds layout size flash left made placed (subst AreShort (sym all_made) short)
     (left_end flash (rewrites layout.otadata made)) in
     let here = subst (λ h. IsFirst h (candidates layout (names layout (written writes es))) started)
     images on in
-    let named = subst (λ ws. IsFirst (images_in held layout flash)
+    let named = subst (λ ws. IsFirst (images_in holds layout flash)
     (candidates layout (names layout (written ws es))) started) is here in
-    first_is_boot layout (images_in held layout flash) es steps started named
+    first_is_boot layout (images_in holds layout flash) es steps started named
 
 -- ---- by the entries that were read
 
@@ -91,23 +91,23 @@ is_boot_same layout images es gs (Some booted) same is =
     record { image = is.image; is = sym same ∙ is.is; told = is.told }
 
 -- what boots by the entries that were read is what boots of the flash
-pub read_boots : (layout : Places) (e0 e1 : Entry) (old mid : Option (List ℕ))
+pub read_boots : (holds : List ℕ → Option (List ℕ)) (layout : Places) (e0 e1 : Entry) (old mid : Option (List ℕ))
     (r : Result (Option Booted) NorFault)
     → mid ≡ old → IfSome old (λ flash. e0 ≡ entries_in layout flash 0)
     → IfSome old (λ flash. e1 ≡ entries_in layout flash 1)
     → IfOk r (λ booted. IfSome mid
-    (λ flash. IsBoot layout (images_in held layout flash) (sectors e0 e1) booted))
+    (λ flash. IsBoot layout (images_in holds layout flash) (sectors e0 e1) booted))
     → IfOk r (λ booted. IfSome old
-    (λ flash. IsBoot layout (images_in held layout flash) (entries_in layout flash) booted))
-read_boots layout e0 e1 old mid (Err why) same first second boots = boots
-read_boots layout e0 e1 None mid (Ok booted) same first second boots = tt
-read_boots layout e0 e1 (Some flash) mid (Ok booted) same first second boots =
-    is_boot_same layout (images_in held layout flash) (sectors e0 e1) (entries_in layout flash)
+    (λ flash. IsBoot layout (images_in holds layout flash) (entries_in layout flash) booted))
+read_boots holds layout e0 e1 old mid (Err why) same first second boots = boots
+read_boots holds layout e0 e1 None mid (Ok booted) same first second boots = tt
+read_boots holds layout e0 e1 (Some flash) mid (Ok booted) same first second boots =
+    is_boot_same layout (images_in holds layout flash) (sectors e0 e1) (entries_in layout flash)
     booted
-    (boots_same layout (images_in held layout flash) (entries_in layout flash) (sectors e0 e1) first
+    (boots_same layout (images_in holds layout flash) (entries_in layout flash) (sectors e0 e1) first
     second)
     (subst (λ (m : Option (List ℕ)). IfSome m
-    (λ f. IsBoot layout (images_in held layout f) (sectors e0 e1) booted)) same boots)
+    (λ f. IsBoot layout (images_in holds layout f) (sectors e0 e1) booted)) same boots)
 
 -- what holds of the rewrites by the entries that were read
 pub read_steps : (layout : Places) (e0 e1 : Entry) (told : Option (List ℕ)) (Q : List Step → Type 0)

@@ -76,7 +76,7 @@ fn aim_on<D: Nor>(
         (D.faults device.old) (D.faults device.new) (D.off device.new) result }
 {
     let (first, second) = read_entries(device, layout)?;
-    let started = first_on(device, layout, &order(layout, &first, &second))?;
+    let started = first_on(device, layout, &order(layout, &first, &second), 0)?;
     Ok(aim_by(layout, &first, &second, started, length))
 }
 

@@ -13,6 +13,7 @@ ghost use Rattle.image_verify.specs.Held.{held};
 ghost use Rattle.boot_run.specs.Made.{AreMade, AreMadeBy, AreMissed};
 ghost use Rattle.boot_run.specs.Rewriting.{rewrites};
 ghost use Rattle.boot_run.specs.Read.{OfEntries};
+ghost use Rattle.boot_run.specs.Above.{StillBootsAbove, held_above};
 ghost use Rattle.boot_run.specs.Verified.{IsFirst};
 ghost use Rattle.boot_run.specs.Crashed.{IsLeftByVerdicts, StillBoots};
 ghost use Rattle.boot_run.specs.Booted.{CountsSteps, IsBoot, boot_answer};
@@ -57,11 +58,11 @@ pub fn boot<D: Nor>(device: &mut D, layout: &Layout) -> Result<Booted, BootFault
         (λ flash. boot_writes (entries_in layout.now flash)) (BootSettles layout.now)
         (D.bytes device.old) (D.bytes device.new) (boot_answer result) }
 {
-    booted(boot_on(device, layout))
+    booted(boot_on(device, layout, 0))
 }
 
 /// The answer of a boot.
-fn booted(found: Result<Option<Booted>, NorFault>) -> Result<Booted, BootFault>
+pub(crate) fn booted(found: Result<Option<Booted>, NorFault>) -> Result<Booted, BootFault>
     ensures exact { boot_answer result ≡ found }
 {
     match found {
@@ -72,8 +73,12 @@ fn booted(found: Result<Option<Booted>, NorFault>) -> Result<Booted, BootFault>
     }
 }
 
-/// A boot; none where no application is whole.
-fn boot_on<D: Nor>(device: &mut D, layout: &Layout) -> Result<Option<Booted>, NorFault>
+/// A boot above a level; none where no application is whole that is no older.
+pub(crate) fn boot_on<D: Nor>(
+    device: &mut D,
+    layout: &Layout,
+    level: u32,
+) -> Result<Option<Booted>, NorFault>
     requires idle { D.running device.old ≡ None }
     requires placed { IsPlaced layout.now (D.size device.old) }
     requires small { D.size device.old < 2 ^ 32 }
@@ -88,25 +93,28 @@ fn boot_on<D: Nor>(device: &mut D, layout: &Layout) -> Result<Option<Booted>, No
         (D.steps device.old) (D.steps device.new) (D.bytes device.old) (D.bytes device.new) result
         × CountsSteps steps result) }
     ensures boots { IfOk result (λ booted. IfSome (D.bytes device.old) (λ flash.
-        IsBoot layout.now (images_in held layout.now flash) (entries_in layout.now flash) booted)) }
+        IsBoot layout.now (images_in (held_above level) layout.now flash) (entries_in layout.now flash) booted)) }
     ensures crash { OnErr result (IsLeftByVerdicts layout.now
         (λ flash. boot_writes (entries_in layout.now flash))
         (D.bytes device.old) (D.bytes device.new)) }
     ensures still { StillBoots layout.now (D.bytes device.old) (D.bytes device.new) }
+    ensures still_above { StillBootsAbove level level layout.now (D.bytes device.old) (D.bytes device.new) }
     ensures pair { KeepsPairs layout.now (IsPairIn layout.now)
         (λ flash. boot_writes (entries_in layout.now flash)) (BootSettles layout.now)
         (D.bytes device.old) (D.bytes device.new) result }
 {
     let (first, second) = read_entries(device, layout)?;
-    boot_by(device, layout, first, second)
+    boot_by(device, layout, first, second, level)
 }
 
-/// A boot of a device whose OTA data have these entries; none where no application is whole.
+/// A boot above a level of a device whose OTA data have these entries; none where no application is
+/// whole that is no older.
 fn boot_by<D: Nor>(
     device: &mut D,
     layout: &Layout,
     e0: Entry,
     e1: Entry,
+    level: u32,
 ) -> Result<Option<Booted>, NorFault>
     requires idle { D.running device.old ≡ None }
     requires on { D.off device.old ≡ false }
@@ -122,7 +130,7 @@ fn boot_by<D: Nor>(
         (D.setting device.old) (rewrites layout.now.otadata (boot_writes (sectors e0 e1)))
         (D.steps device.old) (D.steps device.new) (D.bytes device.old) (D.bytes device.new)) }
     ensures boots { IfOk result (λ booted. IfSome (D.bytes device.old) (λ flash.
-        IsBoot layout.now (images_in held layout.now flash) (sectors e0 e1) booted)) }
+        IsBoot layout.now (images_in (held_above level) layout.now flash) (sectors e0 e1) booted)) }
     ensures steps { IfOk result (λ booted. IfSome booted (λ it. it.steps
         ≡ length (rewrites layout.now.otadata (boot_writes (sectors e0 e1))))) }
     ensures setting { KeepsSetting D.size D.setting device.old device.new }
@@ -131,7 +139,7 @@ fn boot_by<D: Nor>(
 {
     let writes = boot_writes(&e0, &e1);
     write_all(device, layout.otadata, &writes)?;
-    match started_after(device, layout, &writes, e0, e1)? {
+    match started_after(device, layout, &writes, e0, e1, level)? {
         None => Ok(None),
         Some((app, info)) => Ok(Some(Booted {
             app,
@@ -141,13 +149,14 @@ fn boot_by<D: Nor>(
     }
 }
 
-/// The application that is started where these rewrites of these entries are made.
+/// The application that is started above a level where these rewrites of these entries are made.
 fn started_after<D: Nor>(
     device: &mut D,
     layout: &Layout,
     writes: &[Rewrite],
     e0: Entry,
     e1: Entry,
+    level: u32,
 ) -> Result<Option<(App, ImageInfo)>, NorFault>
     requires idle { D.running device.old ≡ None }
     requires on { D.off device.old ≡ false }
@@ -155,7 +164,7 @@ fn started_after<D: Nor>(
     requires small { D.size device.old < 2 ^ 32 }
     requires two { All (λ write. write.sector < 2) writes.now }
     ensures first { IfOk result (λ started. IfSome (D.bytes device.old)
-        (λ flash. IsFirst (images_in held layout.now flash)
+        (λ flash. IsFirst (images_in (held_above level) layout.now flash)
         (candidates layout.now (names layout.now (written writes.now (sectors e0 e1)))) started)) }
     ensures allowed { IfErr result (D.may_refuse (D.setting device.old) (D.steps device.old)) }
     ensures same { IsIdleAsBefore D.bytes D.running device.old device.new }
@@ -164,7 +173,7 @@ fn started_after<D: Nor>(
         (D.faults device.old) (D.faults device.new) (D.off device.new) result }
 {
     let (first, second) = after(writes, e0, e1);
-    first_on(device, layout, &order(layout, &first, &second))
+    first_on(device, layout, &order(layout, &first, &second), level)
 }
 
 /// The entries once the rewrites are made.

@@ -98,7 +98,7 @@ fn confirm_on<D: Nor>(device: &mut D, layout: &Layout) -> Result<Result<Told, No
 }
 
 /// A confirmation of a device whose OTA data have these entries.
-fn confirm_by<D: Nor>(
+pub(crate) fn confirm_by<D: Nor>(
     device: &mut D,
     layout: &Layout,
     e0: &Entry,

@@ -14,20 +14,20 @@ use std::alloc::{AllocError, Global};
 use std::test::Fail;
 
 /// A flash of 1 MiB.
-const SIZE: usize = 0x10_0000;
+pub(crate) const SIZE: usize = 0x10_0000;
 
 /// Where the OTA data, the factory application and the update slots begin; each partition of an
 /// application has 0x10000 bytes.
-const OTADATA: usize = 0xD000;
+pub(crate) const OTADATA: usize = 0xD000;
 
-const FACTORY: usize = 0x1_0000;
+pub(crate) const FACTORY: usize = 0x1_0000;
 
 /// The states of an entry, as ESP-IDF numbers them.
 const NEW: u32 = 0;
 
-const PENDING_VERIFY: u32 = 1;
+pub(crate) const PENDING_VERIFY: u32 = 1;
 
-const VALID: u32 = 2;
+pub(crate) const VALID: u32 = 2;
 
 const INVALID: u32 = 3;
 
@@ -43,7 +43,7 @@ const IMAGE: [u8; 80] = [
 ];
 
 /// What is compared of a boot: the application, the length of its image, the steps.
-type Start = (App, u32, u32);
+pub(crate) type Start = (App, u32, u32);
 
 /// An entry of this sequence, state and CRC.
 fn entry(seq: u32, state: u32, crc: u32) -> Entry {
@@ -56,12 +56,12 @@ fn entry(seq: u32, state: u32, crc: u32) -> Entry {
 }
 
 /// An entry of sequence 1, which names the first slot.
-fn one(state: u32) -> Entry {
+pub(crate) fn one(state: u32) -> Entry {
     entry(1, state, 0x4743_989A)
 }
 
 /// The entry of an erased sector.
-fn blank() -> Entry {
+pub(crate) fn blank() -> Entry {
     entry(0xFFFF_FFFF, 0xFFFF_FFFF, 0xFFFF_FFFF)
 }
 
@@ -78,7 +78,7 @@ fn row(kind: u8, subtype: u8, offset: u32, size: u32) -> Row {
 }
 
 /// A layout of so many slots.
-fn layout_of(slots: usize) -> Option<Layout>
+pub(crate) fn layout_of(slots: usize) -> Option<Layout>
     requires { slots ≤ 3 }
     ensures placed { IfSome result (λ layout. IsPlaced layout 0x100000) }
 {
@@ -107,14 +107,14 @@ fn flagged_layout(slots: usize, flags: u32) -> Option<Layout>
 }
 
 /// As many bytes of one value.
-fn filled(alloc: Global, byte: u8, size: usize) -> Result<Vec<u8>, AllocError>
+pub(crate) fn filled(alloc: Global, byte: u8, size: usize) -> Result<Vec<u8>, AllocError>
     ensures length { IfOk result (λ bytes. length bytes.items ≡ size) }
 {
     Ok(vec![in alloc; byte; size]?)
 }
 
 /// Puts bytes at a place, where they are wanted.
-fn put_at(bytes: &mut [u8], at: usize, part: &[u8], wanted: bool)
+pub(crate) fn put_at(bytes: &mut [u8], at: usize, part: &[u8], wanted: bool)
     requires { at + length part.now ≤ length bytes.old }
 {
     if wanted {
@@ -181,7 +181,7 @@ fn confirmed<D: Nor>(device: &mut D, layout: &Layout) -> Result<Told, ConfirmFau
 }
 
 /// A rejection.
-fn rejected<D: Nor>(device: &mut D, layout: &Layout) -> Result<Told, RejectFault>
+pub(crate) fn rejected<D: Nor>(device: &mut D, layout: &Layout) -> Result<Told, RejectFault>
     requires idle { D.running device.old ≡ None }
     requires placed { IsPlaced layout.now 0x100000 }
     requires size { D.size device.old ≡ 0x100000 }

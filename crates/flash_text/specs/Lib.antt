@@ -4,6 +4,7 @@ pub mod ImageText
 pub mod StartText
 pub mod Text
 pub mod BootText
+pub mod LoadText
 pub mod WorkerText
 pub mod UpdateText
 pub mod SweepText

@@ -3,6 +3,7 @@
 
 mod boot_text;
 mod image_text;
+mod load_text;
 mod refusal;
 mod start_text;
 mod sweep_text;
@@ -15,6 +16,7 @@ mod worker_text;
 
 pub use boot_text::{put_booted, put_boots, put_confirmed, put_rejected};
 pub use image_text::{put_image, put_length};
+pub use load_text::put_loaded;
 pub use refusal::Refusal;
 pub use sweep_text::put_sweep;
 pub use table_text::{put_count, put_rows_lines};

@@ -6,5 +6,6 @@ pub mod Make
 pub mod Marks
 pub mod MarksView
 pub mod Marked
+pub mod BegunView
 pub mod Ram
 pub mod RamView

@@ -1,6 +1,7 @@
 //! The flash device of every layer: its steps, what a call of it means, and a device in memory.
 #![tactic(auto)]
 
+mod begun_step;
 mod flash_size;
 mod laws;
 mod make;

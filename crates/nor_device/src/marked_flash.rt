@@ -6,10 +6,10 @@ ghost use Rattle.nor_device.specs.Flash.{IsPageLength, end_of, anded, applied, e
 ghost use Rattle.nor_device.specs.FlashSize.{IsFlashSize};
 ghost use Rattle.nor_device.specs.Marks.{AreErased, no_marks, is_marked, marked_count, marked_as, marks_after, covered};
 ghost use Rattle.nor_device.specs.Nor.{part_of};
-ghost use Rattle.nor_device.specs.declared.step.Step.TheVariants.{Program};
+ghost use Rattle.nor_device.specs.declared.step.Step.TheVariants.{Erase, Program, Block};
 
 use crate::marks::Marks;
-use crate::step::{BLOCK_SIZE, SECTOR_SIZE, Step};
+use crate::step::{BLOCK_SIZE, SECTOR_SIZE};
 use std::marker::Model;
 
 const SECTOR: usize = SECTOR_SIZE as usize;
@@ -81,25 +81,41 @@ impl MarkedFlash {
         cover(&self.marks, at, out);
     }
 
-    /// Makes the step.
+    /// Erases the sector.
     #[tactic(auto, using(crate::proofs::FlashLaws::length_applied))]
-    pub(crate) fn apply(&mut self, step: &Step)
-        requires inside { end_of step.now ≤ length self.old.bytes }
-        ensures bytes { self.new.bytes ≡ applied self.old.bytes step.now }
-        ensures marks { self.new.marks ≡ marks_after step.now self.old.marks }
+    pub(crate) fn erase_sector(&mut self, sector: u32)
+        requires inside { end_of (Erase sector) ≤ length self.old.bytes }
+        ensures bytes { self.new.bytes ≡ applied self.old.bytes (Erase sector) }
+        ensures marks { self.new.marks ≡ marks_after (Erase sector) self.old.marks }
         ensures size { length self.new.bytes ≡ length self.old.bytes }
     {
-        match step {
-            Step::Erase { sector } => {
-                let first = *sector as usize;
-                self.erase(first, first + 1);
-            }
-            Step::Program { at, bytes } => self.program(*at, bytes.bytes()),
-            Step::Block { block } => {
-                let first = *block as usize * BLOCK_SECTORS;
-                self.erase(first, first + BLOCK_SECTORS);
-            }
-        }
+        let first = sector as usize;
+        self.erase(first, first + 1);
+    }
+
+    /// Erases the block.
+    #[tactic(auto, using(crate::proofs::FlashLaws::length_applied))]
+    pub(crate) fn erase_block(&mut self, block: u32)
+        requires inside { end_of (Block block) ≤ length self.old.bytes }
+        ensures bytes { self.new.bytes ≡ applied self.old.bytes (Block block) }
+        ensures marks { self.new.marks ≡ marks_after (Block block) self.old.marks }
+        ensures size { length self.new.bytes ≡ length self.old.bytes }
+    {
+        let first = block as usize * BLOCK_SECTORS;
+        self.erase(first, first + BLOCK_SECTORS);
+    }
+
+    /// ANDs the data into the bytes, in sectors without a mark.
+    pub(crate) fn program(&mut self, at: u32, data: &[u8])
+        requires inside { at + length «data».now ≤ length self.old.bytes }
+        requires page { IsPageLength «data».now }
+        ensures bytes { self.new.bytes ≡ applied self.old.bytes (Program at «data».now) }
+        ensures marks { self.new.marks ≡ marks_after (Program at «data».now) self.old.marks }
+        ensures size { length self.new.bytes ≡ length self.old.bytes }
+    {
+        let at = at as usize;
+        self.settle_all(at / SECTOR, (at + data.len()).div_ceil(SECTOR));
+        program(&mut self.stored, at, data);
     }
 
     /// Marks the sectors from the first up to the last, without it.
@@ -112,19 +128,6 @@ impl MarkedFlash {
         for sector in first..last {
             self.marks.set(sector);
         }
-    }
-
-    /// ANDs the data into the bytes, in sectors without a mark.
-    fn program(&mut self, at: u32, data: &[u8])
-        requires inside { at + length «data».now ≤ length self.old.bytes }
-        requires page { IsPageLength «data».now }
-        ensures bytes { self.new.bytes ≡ applied self.old.bytes (Program at «data».now) }
-        ensures marks { self.new.marks ≡ marked_as false
-            (at / 4096) ((at + length «data».now + 4095) / 4096) self.old.marks }
-    {
-        let at = at as usize;
-        self.settle_all(at / SECTOR, (at + data.len()).div_ceil(SECTOR));
-        program(&mut self.stored, at, data);
     }
 
     /// Fills what is marked of the sectors from the first up to the last, without it.

@@ -1,6 +1,6 @@
 //! The data of one program: 1 to 256 bytes, the most that a serial NOR flash takes in one page program.
 
-ghost use Rattle.std.specs.Prelude.{◌≡◌, ◌↔◌, ◌<◌, ◌≤◌, ◌*◌, length, IsNone, IfSome};
+ghost use Rattle.std.specs.Prelude.{◌≡◌, ◌↔◌, ◌<◌, ◌≤◌, ◌*◌, length, replicate, IsNone, IfSome};
 
 use std::marker::Model;
 
@@ -50,6 +50,24 @@ impl Page {
             bytes: page,
             len: bytes.len(),
         })
+    }
+
+    /// A page of 0xFF, which no program needs.
+    pub(crate) fn blank() -> Page
+        ensures exact { result ≡ replicate 256 255 }
+    {
+        Page {
+            bytes: [0xFF; 256],
+            len: PAGE_SIZE,
+        }
+    }
+
+    /// Becomes a copy of the other page.
+    pub(crate) fn take_over(&mut self, other: &Page)
+        ensures exact { self.new ≡ other.now }
+    {
+        self.bytes = other.bytes;
+        self.len = other.len;
     }
 
     /// The bytes.

@@ -7,6 +7,7 @@ ghost use Rattle.nor_device.specs.Nor.{part_of};
 ghost use Rattle.nor_device.specs.FlashSize.{IsFlashSize};
 ghost use Rattle.nor_device.specs.Ram.{begun, polled, poll_answer};
 
+use crate::begun_step::BegunStep;
 use crate::marked_flash::MarkedFlash;
 use crate::nor::{Nor, NorFault, Ready};
 use crate::step::Step;
@@ -17,7 +18,7 @@ use std::marker::Model;
 pub struct RamNor {
     flash: MarkedFlash,
     polls: u32,
-    running: Option<Step>,
+    running: BegunStep,
     left: u32,
     steps: u64,
 }
@@ -48,7 +49,7 @@ impl RamNor {
         RamNor {
             flash: MarkedFlash::of_bytes(bytes),
             polls,
-            running: None,
+            running: BegunStep::none(),
             left: 0,
             steps: 0,
         }
@@ -123,7 +124,7 @@ impl Nor for RamNor {
         ensures ok { IsOk result }
         ensures begun { self.new ≡ begun self.old step.now }
     {
-        step.copy_to(&mut self.running);
+        self.running.begin(step);
         self.left = self.polls;
         self.steps = self.steps.saturating_add(1);
         Ok(())
@@ -138,10 +139,8 @@ impl Nor for RamNor {
             self.left -= 1;
             return Ok(Ready::Busy);
         }
-        if let Some(step) = &self.running {
-            self.flash.apply(step);
-        }
-        self.running = None;
+        self.running.make_on(&mut self.flash);
+        self.running.end();
         Ok(Ready::Ready)
     }
 }

@@ -1,6 +1,6 @@
 //! The commands that change a NOR flash: the erase of a sector or a block sets bits, a program clears some.
 
-ghost use Rattle.std.specs.Prelude.{◌≡◌, ◌≤◌, ◌^◌, Some};
+ghost use Rattle.std.specs.Prelude.{◌≡◌, ◌≤◌, ◌^◌};
 
 use crate::page::Page;
 
@@ -34,22 +34,6 @@ impl Step {
             Step::Erase { sector } => (*sector * SECTOR_SIZE, SECTOR_SIZE),
             Step::Program { at, bytes } => (*at, bytes.bytes().len() as u32),
             Step::Block { block } => (*block * BLOCK_SIZE, BLOCK_SIZE),
-        }
-    }
-
-    /// Keeps a copy of the step there, in one move of its bytes.
-    pub(crate) fn copy_to(&self, place: &mut Option<Step>)
-        ensures exact { place.new ≡ Some self.now }
-    {
-        match self {
-            Step::Erase { sector } => *place = Some(Step::Erase { sector: *sector }),
-            Step::Program { at, bytes } => {
-                *place = Some(Step::Program {
-                    at: *at,
-                    bytes: bytes.copy(),
-                })
-            }
-            Step::Block { block } => *place = Some(Step::Block { block: *block }),
         }
     }
 

@@ -1,10 +1,11 @@
 -- What a stream makes: its answers, its steps, and the state that it leaves.
-use Rattle.std.specs.Prelude.{ℕ, ◌≤◌, Bool, IsTrue, List, [], ◌∷◌, ◌++◌, Option, None, Result, IsErrOf}
+use Rattle.std.specs.Prelude.{◌≡◌, ◌⊎◌, ℕ, ◌≤◌, Bool, IsTrue, List, [], ◌∷◌, ◌++◌, Option, None, Result, IsErrOf}
 use Rattle.nor_device.specs.declared.step.Step.{Step}
+use Rattle.nor_device.specs.declared.nor.StepEnd.{StepEnd}
 use Rattle.nor_device.specs.declared.nor.NorFault.{NorFault}
 use Rattle.nor_device.specs.declared.nor.NorFault.TheVariants as faults
 use Rattle.nor_device.specs.Flash.{after_steps}
-use Rattle.nor_device.specs.Nor.{Rose, one_more}
+use Rattle.nor_device.specs.Nor.{Rose, end_by, one_more}
 use Rattle.partition_table.specs.declared.row.Row.{Row}
 use Rattle.slip_loader.specs.declared.fault.LoadNo.{LoadNo}
 use Rattle.slip_loader.specs.declared.fault.LoadNo.TheVariants as ends
@@ -91,10 +92,22 @@ abbrev pub count_after : ℕ → List Step → ℕ
 count_after count [] = count
 count_after count (step ∷ steps) = count_after (one_more count) steps
 
+-- how a device of this setting may refuse: after the step of some number, or in it
+abbrev pub MayRefuse : {S : Type 0} → (S → ℕ → StepEnd → Type 0) → (S → ℕ → NorFault → Type 0) → S
+    → NorFault → Type 0
+MayRefuse may_end may_refuse setting why =
+    (n : ℕ) × (may_refuse setting n why ⊎ may_end setting n (end_by why))
+
 -- how a call of the loader ends where the device refuses so
 abbrev pub fault_by : NorFault → LoadNo
 fault_by faults.Failed = ends.Device
 fault_by faults.Off = ends.Cut
+
+-- so may one whose refusal is shown by this answer
+abbrev pub MayAnswer : {S : Type 0} → (S → ℕ → StepEnd → Type 0) → (S → ℕ → NorFault → Type 0) → S
+    → LoadNo → Type 0
+MayAnswer may_end may_refuse setting why =
+    (fault : NorFault) × (why ≡ fault_by fault) × MayRefuse may_end may_refuse setting fault
 
 -- why work was refused: a failure only where the count of faults rose, and off only where the power is
 -- off

@@ -6,7 +6,7 @@ ghost use Rattle.nor_device.specs.Nor.{KeepsSetting};
 ghost use Rattle.crash_images.specs.Crash.{IsAfterAll, IsLeftOf};
 ghost use Rattle.slip_loader.specs.Answers.{plan_answer};
 ghost use Rattle.slip_loader.specs.Frames.{requests_from, taken_from};
-ghost use Rattle.slip_loader.specs.Loads.{ComesOf, LoadComesOf, State, count_after, first_state, load_answers, load_steps, state_after};
+ghost use Rattle.slip_loader.specs.Loads.{ComesOf, LoadComesOf, MayAnswer, MayRefuse, State, count_after, first_state, load_answers, load_steps, state_after};
 ghost use Rattle.slip_loader.specs.Plans.{AreBegun, begun_by, command_of, plan_of, plan_steps};
 
 use crate::answer::{accepted, refused};
@@ -99,6 +99,8 @@ impl Loader {
         ensures failed { IfErr result (λ why. self.new.failed ≡ Some why) }
         ensures size { self.new.state.size ≡ self.old.state.size }
         ensures setting { KeepsSetting D.size D.setting device.old device.new }
+        ensures allowed { self.old.failed ≡ None
+            → IfErr result (MayAnswer D.may_end D.may_refuse (D.setting device.old)) }
         ensures cause { self.old.failed ≡ None → LoadComesOf
             (D.faults device.old) (D.faults device.new) (D.off device.new) result }
     {
@@ -163,6 +165,7 @@ fn respond<D: Nor>(
     ensures counted { OnOk result (D.steps device.new ≡ count_after (D.steps device.old)
         (plan_steps (plan_of size table.now begun.old frame.now) frame.now)) }
     ensures setting { KeepsSetting D.size D.setting device.old device.new }
+    ensures allowed { IfErr result (MayRefuse D.may_end D.may_refuse (D.setting device.old)) }
     ensures cause { ComesOf (D.faults device.old) (D.faults device.new) (D.off device.new) result }
 {
     let command = command_of(frame);

@@ -1,12 +1,12 @@
 //! Work on a device: erases, programs, digests.
 
-ghost use Rattle.std.specs.Prelude.{◌≡◌, ◌≤◌, ◌<◌, ◌+◌, ◌%◌, ◌^◌, ◌++◌, ℕ, List, None, Some, IfSome, IfOk, OnOk, length};
+ghost use Rattle.std.specs.Prelude.{◌≡◌, ◌≤◌, ◌<◌, ◌+◌, ◌%◌, ◌^◌, ◌++◌, ℕ, List, None, Some, IfSome, IfOk, IfErr, OnOk, length};
 ghost use Rattle.md5.specs.Md5.{Holds, md5};
 ghost use Rattle.nor_device.specs.Nor.{HasCause, IsIdleAsBefore, KeepsSetting, KeepsSteps, part_of};
 ghost use Rattle.crash_images.specs.Crash.{IsAfterAll, IsLeftOf};
 ghost use Rattle.flash_steps.specs.Steps.{erase_steps, write_steps};
 ghost use Rattle.slip_loader.specs.Answers.{work_digest};
-ghost use Rattle.slip_loader.specs.Loads.{ComesOf, count_after};
+ghost use Rattle.slip_loader.specs.Loads.{ComesOf, MayRefuse, count_after};
 ghost use Rattle.slip_loader.specs.Plans.{LiesIn, work_steps};
 
 use crate::plan::Work;
@@ -31,6 +31,7 @@ fn erase<D: Nor>(device: &mut D, at: u32, len: u32) -> Result<(), NorFault>
     ensures counted { OnOk result
         (D.steps device.new ≡ count_after (D.steps device.old) (erase_steps at len)) }
     ensures setting { KeepsSetting D.size D.setting device.old device.new }
+    ensures allowed { IfErr result (MayRefuse D.may_end D.may_refuse (D.setting device.old)) }
     ensures cause { ComesOf (D.faults device.old) (D.faults device.new) (D.off device.new) result }
 {
     for sector in at / SECTOR_SIZE..(at + len) / SECTOR_SIZE {
@@ -51,6 +52,7 @@ fn program<D: Nor>(device: &mut D, at: u32, bytes: &[u8]) -> Result<(), NorFault
     ensures counted { OnOk result
         (D.steps device.new ≡ count_after (D.steps device.old) (write_steps at bytes.now)) }
     ensures setting { KeepsSetting D.size D.setting device.old device.new }
+    ensures allowed { IfErr result (MayRefuse D.may_end D.may_refuse (D.setting device.old)) }
     ensures cause { ComesOf (D.faults device.old) (D.faults device.new) (D.off device.new) result }
 {
     let mut at = at;
@@ -72,6 +74,7 @@ fn digest<D: Nor>(device: &mut D, at: u32, len: u32) -> Result<[u8; 16], NorFaul
         (λ flash. digest ≡ md5 (part_of flash at len))) }
     ensures same { IsIdleAsBefore D.bytes D.running device.old device.new }
     ensures setting { KeepsSteps D.size D.setting D.steps device.old device.new }
+    ensures allowed { IfErr result (MayRefuse D.may_end D.may_refuse (D.setting device.old)) }
     ensures cause { ComesOf (D.faults device.old) (D.faults device.new) (D.off device.new) result }
 {
     let mut hasher = Md5::new();
@@ -99,6 +102,7 @@ fn read_piece<D: Nor>(
         → Holds hasher.old m → Holds hasher.new (m ++ part_of flash at (length piece.old)))) }
     ensures same { IsIdleAsBefore D.bytes D.running device.old device.new }
     ensures setting { KeepsSteps D.size D.setting D.steps device.old device.new }
+    ensures allowed { IfErr result (MayRefuse D.may_end D.may_refuse (D.setting device.old)) }
     ensures cause { HasCause (D.faults device.old) (D.faults device.new) (D.off device.new) result }
 {
     device.read(at, piece)?;
@@ -124,6 +128,7 @@ pub(crate) fn do_work<D: Nor>(
     ensures counted { OnOk result
         (D.steps device.new ≡ count_after (D.steps device.old) (work_steps work block.now)) }
     ensures setting { KeepsSetting D.size D.setting device.old device.new }
+    ensures allowed { IfErr result (MayRefuse D.may_end D.may_refuse (D.setting device.old)) }
     ensures cause { ComesOf (D.faults device.old) (D.faults device.new) (D.off device.new) result }
 {
     let mut given = ArrayVec::new();

@@ -10,13 +10,14 @@ use nor_device::{Nor, RamNor};
 /// How often each step answers that it still runs.
 pub(crate) const POLLS: u32 = 2;
 
-/// The device over the bytes of a flash, which are not copied. It is idle, no step of it ends
-/// badly, and it refuses nothing.
+/// The device over the bytes of a flash, which are not copied. It is idle, has made no step, ends
+/// none badly, and refuses nothing.
 pub fn device_of(flash: Vec<u8>) -> CutNor<RamNor>
     requires size { IsFlashSize (length flash.items) }
     ensures idle { ⟦<CutNor<RamNor> as Nor>⟧.running result ≡ None }
     ensures bytes { ⟦<CutNor<RamNor> as Nor>⟧.bytes result ≡ Some flash.items }
     ensures size { ⟦<CutNor<RamNor> as Nor>⟧.size result ≡ length flash.items }
+    ensures steps { ⟦<CutNor<RamNor> as Nor>⟧.steps result ≡ 0 }
     ensures sure { IsSure ⟦<CutNor<RamNor> as Nor>⟧.may_end ⟦<CutNor<RamNor> as Nor>⟧.may_refuse
         (⟦<CutNor<RamNor> as Nor>⟧.setting result) }
 {

@@ -1,4 +1,7 @@
-use Rattle.std.proofs.Common.{◌∙◌}
+use Rattle.std.proofs.Common.{◌∙◌, IfSome, subst}
+use Rattle.boot_select.specs.Boots.{images_in}
+use Rattle.boot_run.specs.Verified.{IsFirst}
+use Rattle.boot_run.proofs.AboveLemmas.{held_all}
 use Rattle.boot_run.proofs.AimLemmas.{told_aims}
 use Rattle.boot_run.proofs.aiming.aim_on.Goals as goal
 
@@ -12,4 +15,6 @@ returns-clause-aims g c =
     c.aim_by.result
     c.in_ok-first.ensures.first c.in_ok-first.ensures.second c.order.ensures.start
     (c.deref.ensures.0 ∙ c.order.ensures.exact) c.read_entries.ensures.same.bytes_same
-    c.in_ok-started.ensures.first c.aim_by.ensures.ok c.aim_by.ensures.err
+    (subst (λ holds. IfSome (n.bytes c.read_entries.new.device) (λ flash.
+    IsFirst (images_in holds c.args.layout.now flash) c.deref.result.now c.in_ok-started.started))
+    held_all c.in_ok-started.ensures.first) c.aim_by.ensures.ok c.aim_by.ensures.err

@@ -4,9 +4,9 @@ use Rattle.partition_table.specs.Layout.{Places}
 use Rattle.boot_select.specs.Settled.{sectors}
 use Rattle.boot_select.specs.Boots.{images_in}
 use Rattle.image_verify.specs.declared.info.ImageInfo.{ImageInfo}
-use Rattle.image_verify.specs.Held.{held}
 use Rattle.rollback.specs.declared.rewrite.Rewrite.{Rewrite}
 use Rattle.rollback.specs.Boot.{boot_writes}
+use Rattle.boot_run.specs.Above.{held_above}
 use Rattle.boot_run.specs.Booted.{IsBoot}
 use Rattle.boot_run.proofs.WritesLemmas.{boot_are, boot_two}
 use Rattle.boot_run.proofs.StartedLemmas.{booted_of, boot_by, by_short, told_boot, length-rewrites}
@@ -31,14 +31,14 @@ returns-in-None-clause-boots g c =
     let n = g.D.Nor in
     let es = sectors c.args.e0 c.args.e1 in
     let exact = c.boot_writes-writes.ensures.exact in
-    let boots = told_boot c.args.layout.now _ _ es c.deref.result.now c.deref-2.result.now 0
+    let boots = told_boot (held_above c.args.level) c.args.layout.now _ _ es c.deref.result.now c.deref-2.result.now 0
     (n.bytes c.args.device.now) (n.bytes c.write_all.new.device) c.in_ok-started_after.field-0
     c.requires.placed (c.deref.ensures.0 ∙ exact) (c.deref-2.ensures.0 ∙ exact)
     (by_short boot_writes c.args.e0 c.args.e1 boot_by c.requires.first c.requires.second)
     (ap (λ (l : Places). l.otadata) c.layout.view_is) c.in_ok-write_all.ensures.made.bytes
     c.in_ok-started_after.ensures.first in
     subst (λ (started : Option (App × ImageInfo)). IfSome (n.bytes c.args.device.now) (λ flash.
-    IsBoot c.args.layout.now (images_in held c.args.layout.now flash) es (booted_of 0 started)))
+    IsBoot c.args.layout.now (images_in (held_above c.args.level) c.args.layout.now flash) es (booted_of 0 started)))
     c.in-None.is boots
 
 -- the first one that has an image
@@ -47,14 +47,14 @@ returns-in-Some-clause-boots g c =
     let n = g.D.Nor in
     let es = sectors c.args.e0 c.args.e1 in
     let exact = c.boot_writes-writes.ensures.exact in
-    let boots = told_boot c.args.layout.now _ _ es c.deref.result.now c.deref-2.result.now 0
+    let boots = told_boot (held_above c.args.level) c.args.layout.now _ _ es c.deref.result.now c.deref-2.result.now 0
     (n.bytes c.args.device.now) (n.bytes c.write_all.new.device) c.in_ok-started_after.field-0
     c.requires.placed (c.deref.ensures.0 ∙ exact) (c.deref-2.ensures.0 ∙ exact)
     (by_short boot_writes c.args.e0 c.args.e1 boot_by c.requires.first c.requires.second)
     (ap (λ (l : Places). l.otadata) c.layout.view_is) c.in_ok-write_all.ensures.made.bytes
     c.in_ok-started_after.ensures.first in
     subst (λ (started : Option (App × ImageInfo)). IfSome (n.bytes c.args.device.now) (λ flash.
-    IsBoot c.args.layout.now (images_in held c.args.layout.now flash) es (booted_of 0 started)))
+    IsBoot c.args.layout.now (images_in (held_above c.args.level) c.args.layout.now flash) es (booted_of 0 started)))
     c.in-Some.is boots
 
 pub returns-in-Some-clause-steps : goal.returns-in-Some-clause-steps

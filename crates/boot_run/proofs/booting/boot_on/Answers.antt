@@ -4,9 +4,10 @@ use Rattle.boot_select.specs.Boots.{entries_in}
 use Rattle.rollback.specs.Boot.{boot_writes}
 use Rattle.boot_run.specs.Made.{AreMadeBy}
 use Rattle.boot_run.specs.Rewriting.{rewrites}
+use Rattle.boot_run.specs.Above.{held_above}
 use Rattle.boot_run.specs.Booted.{CountsSteps}
 use Rattle.boot_run.proofs.MadeLemmas.{made_by, made_by_left, made_by_ok, missed_none}
-use Rattle.boot_run.proofs.CrashLemmas.{told_boots}
+use Rattle.boot_run.proofs.CrashLemmas.{told_boots, told_boots_above}
 use Rattle.boot_run.proofs.WritesLemmas.{boot_are}
 use Rattle.boot_run.proofs.StartedLemmas.{any_entries, boot_by, by_short, on_err_any, read_boots, read_crash, read_steps, unread_crash}
 use Rattle.boot_run.specs.Paired.{BootSettles, IsPairIn}
@@ -58,7 +59,7 @@ returns-clause-steps g c =
 pub returns-clause-boots : goal.returns-clause-boots
 returns-clause-boots g c =
     let n = g.D.Nor in
-    read_boots c.args.layout.now c.in_ok-first.first c.in_ok-first.second
+    read_boots (held_above c.args.level) c.args.layout.now c.in_ok-first.first c.in_ok-first.second
     (n.bytes c.args.device.now)
     (n.bytes c.read_entries.new.device) c.boot_by.result c.read_entries.ensures.same.bytes_same
     c.in_ok-first.ensures.first c.in_ok-first.ensures.second c.boot_by.ensures.boots
@@ -93,6 +94,24 @@ returns-clause-still g c =
     c.boot_by.result read.setting.setting_same read.setting.steps_same read.same.bytes_same it.made
     it.missed in
     told_boots c.args.layout.now _ (boot_writes (sectors e0 e1)) (n.bytes c.args.device.now)
+    (n.bytes c.boot_by.new.device) c.requires.placed
+    (by_short boot_writes e0 e1 boot_by c.in_ok-first.ensures.stored.0
+    c.in_ok-first.ensures.stored.1)
+    (made_by_left n.may_end n.may_tear n.may_refuse n.must_refuse _ _ _ _ _ _ c.boot_by.result made)
+
+pub returns-clause-still_above : goal.returns-clause-still_above
+returns-clause-still_above g c =
+    let n = g.D.Nor in
+    let read = c.read_entries.ensures in
+    let it = c.boot_by.ensures in
+    let e0 = c.in_ok-first.first in
+    let e1 = c.in_ok-first.second in
+    let made = made_by n.may_end n.may_tear n.may_refuse n.must_refuse (n.setting c.args.device.now)
+    _ _ _ _ _ _ _ _
+    c.boot_by.result read.setting.setting_same read.setting.steps_same read.same.bytes_same it.made
+    it.missed in
+    told_boots_above c.args.level c.args.layout.now _ (boot_writes (sectors e0 e1))
+    (n.bytes c.args.device.now)
     (n.bytes c.boot_by.new.device) c.requires.placed
     (by_short boot_writes e0 e1 boot_by c.in_ok-first.ensures.stored.0
     c.in_ok-first.ensures.stored.1)

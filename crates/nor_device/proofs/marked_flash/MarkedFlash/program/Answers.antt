@@ -34,3 +34,9 @@ returns-clause-bytes c =
     ∙ unmarked _ _ c.args.self.now.marks (i / 4096) (grind arith) (grind arith))
     ∙ ap (λ m. applied m.bytes step) c.self.view_is
     ∙ ap (λ bytes. applied bytes step) c.settle_all.ensures.bytes
+
+-- the flash stays as long
+pub returns-clause-size : goal.returns-clause-size
+returns-clause-size c =
+    ap length (returns-clause-bytes c)
+    ∙ length_applied c.args.self.now.bytes (Program c.args.at c.args.data.now)
